@@ -1,0 +1,4 @@
+-- Laws of flag words.
+pub mod Laws
+pub mod Sets
+pub mod Below

@@ -1,0 +1,31 @@
+-- A bit of a word, and the words that come of setting and clearing bits.
+use Prim.Native.Nat.{ℕ, _/_, _%_, _^_}
+use mathlib.Core.Bool.{Bool, cond}
+use lib.Dec.{eqb}
+use lib.Bits.{bitAnd, bitOr, bitXor}
+
+-- Binary digit n of w, 0 or 1.
+unfoldable pub digit : ℕ → ℕ → ℕ
+digit w n = w / 2 ^ n % 2
+
+-- Is bit n of w up?
+abbrev pub bit : ℕ → ℕ → Bool
+bit w n = eqb (digit w n) 1
+
+-- The word whose only bit is n.
+abbrev pub mask : ℕ → ℕ
+mask n = 2 ^ n
+
+-- w without the bits of v: those of v that w has are taken away.
+abbrev pub without : ℕ → ℕ → ℕ
+without w v = bitXor w (bitAnd w v)
+
+abbrev pub setBit : ℕ → ℕ → ℕ
+setBit w n = bitOr w (mask n)
+
+abbrev pub clearBit : ℕ → ℕ → ℕ
+clearBit w n = without w (mask n)
+
+-- Bit n where t holds, no bit where it does not.
+abbrev pub flag : Bool → ℕ → ℕ
+flag t n = cond t (mask n) 0

@@ -1,0 +1,3 @@
+-- Flag words, and tests over all mailbox numbers.
+pub mod Bit
+pub mod Below

@@ -1,0 +1,144 @@
+-- A good image by its facts, both ways; another mailbox or another register block in it.
+use Prim.Native.Nat.{ℕ, zero, suc, _+_, _*_, _^_, _<_, _≤_}
+use mathlib.Core.Path.{_≡_, refl, _∙_, ap}
+use mathlib.Core.Bool.{Bool, true, false}
+use mathlib.Core.List.{List, [], _∷_}
+use mathlib.Core.Logic.{inl, inr}
+use native.Mathlib.Omega.{arith}
+use lib.Dec.{eqb, ltb, lit<, lit≤}
+use lib.ListN.{getD, length}
+use borrow.Author.Tests.{eqb-true, eq-eqb, ltb-true, ltb-false}
+use Rattle.bits.proofs.Sets.{both, and-l, and-r, within-le}
+use Rattle.bits.proofs.Below.{each-below, all-below}
+use Rattle.words.specs.Word.{wordAt, wordsOf}
+use Rattle.words.proofs.Rows.{words-same}
+use Rattle.words.proofs.Bytes.{Bytes, word-lt}
+use Rattle.registers.specs.declared.Block.{Block}
+use Rattle.registers.specs.Block.{imageBytes, registersAt, blockOf, putBlock, ofWords, toWords}
+use Rattle.registers.proofs.Laws.{Small, length-block, bytes-block, word-stays, word-back, block-back}
+use Rattle.mailboxes.specs.Mailbox.{mailboxes, withMailbox, layout}
+use Rattle.mailboxes.proofs.Laws.{length-with, bytes-with, word-in, word-out}
+use Rattle.good.specs.Good.{every, contents, goodLayouts, goodSpare, goodImage}
+use Rattle.good.proofs.Facts.{all, holds, WideBlock, GoodBlock, block-facts, block-good}
+
+-- ---- the facts
+
+pub record GoodImage (s : List ℕ) : Type 0 where
+  pub bytes : Bytes s
+  pub size : length s ≡ imageBytes
+  pub layouts : (n : ℕ) → n < mailboxes → layout s n ≡ true
+  pub spare : goodSpare s ≡ true
+  pub block : GoodBlock (blockOf s)
+
+wide : (s : List ℕ) → Bytes s → WideBlock (blockOf s)
+unfolding blockOf wordsOf
+wide s h =
+    record {
+      mc = word-lt s h 512;
+      md = word-lt s h 516;
+      rmp = word-lt s h 536;
+      lam = word-lt s h 544;
+      gam = word-lt s h 548;
+      mbrif = word-lt s h 564;
+      mbim = word-lt s h 568;
+    }
+
+pub good-length : (s : List ℕ) → goodImage s ≡ true → length s ≡ imageBytes
+unfolding goodImage
+good-length s g = eqb-true _ _ (and-l (eqb (length s) imageBytes) (every (contents s)) g)
+
+pub image-facts : (s : List ℕ) → Bytes s → goodImage s ≡ true → GoodImage s
+unfolding goodImage goodLayouts
+image-facts s h g =
+    let parts = all (contents s) (and-r (eqb (length s) imageBytes) (every (contents s)) g) in
+    record {
+      bytes = h;
+      size = eqb-true _ _ (and-l (eqb (length s) imageBytes) (every (contents s)) g);
+      layouts = each-below (layout s) mailboxes (parts .0);
+      spare = parts .1 .0;
+      block = block-facts (blockOf s) (wide s h) (parts .1 .1 .0);
+    }
+
+pub image-good : (s : List ℕ) → GoodImage s → goodImage s ≡ true
+unfolding goodImage goodLayouts
+image-good s f =
+    both (eqb (length s) imageBytes) (every (contents s)) (eq-eqb _ _ (f .size))
+    (holds (contents s) (all-below (layout s) mailboxes (f .layouts), (f .spare, (block-good (blockOf s) (f .block), tt))))
+
+-- ---- every word of a good block fits its four bytes
+
+abbrev Fit : List ℕ → Type 0
+Fit [] = Unit
+Fit (a ∷ l) = (a < 2 ^ 32) × (Fit l)
+
+fit-at : (l : List ℕ) → Fit l → (j : ℕ) → j < length l → getD l j 0 < 2 ^ 32
+fit-at [] f j h = absurd (omega arith)
+fit-at (a ∷ l) f zero h = f .0
+fit-at (a ∷ l) f (suc j) h = fit-at l (f .1) j (omega arith)
+
+pub small : (b : Block) → GoodBlock b → Small b
+small b g =
+    let w = g .core .wide in
+    let l = g .core .low in
+    let r = g .core .ranges in
+    let p = within-le (g .core .rml) in
+    let q = within-le (g .core .rfp) in
+    fit-at (toWords b)
+    (w .mc, (w .md, (omega (arith, l .trs), (omega (arith, l .trr), (omega (arith, l .ta), (omega (arith, l .aa), (w .rmp, (omega (arith, w .rmp, p), (w .lam, (w .gam, (omega (arith, w .rmp, q), (omega (arith, l .cdr), (omega (arith, l .mbtif), (w .mbrif, (w .mbim, (omega (arith, r .gif), (omega (arith, r .gim), (omega (arith, r .bcr1), (omega (arith, r .bcr2), (omega (arith, r .tsc), (omega (arith, r .tec), (omega (arith, r .rec), (omega (arith, r .mode), (omega (arith, g .waits .most), (omega (arith, r .slot), (omega (arith, r .recovery), (omega (arith, r .options), (omega (arith, r .tso), (lit< tt, (lit< tt, (lit< tt, (lit< tt, tt))))))))))))))))))))))))))))))))
+
+-- ---- 16 other bytes in the place of a mailbox
+
+module _ (s : List ℕ) (n : ℕ) (m : List ℕ) (g : GoodImage s) (hn : n < mailboxes) (size : length m ≡ 16) (byte : Bytes m) (ok : layout m 0 ≡ true) where
+  room : 16 * n + 16 ≤ length s
+  room = omega (arith, g .size)
+
+  layout-there : (j : ℕ) → j < mailboxes → (t u : Bool) → ltb j n ≡ t → ltb n j ≡ u → layout (withMailbox s n m) j ≡ true
+  unfolding layout
+  layout-there j h true u p q =
+      let l = ltb-true j n p in
+      rw (word-out s n m room size (16 * j + 4 * 0) (inl (omega arith)), word-out s n m room size (16 * j + 4 * 1) (inl (omega arith)))
+      (g .layouts j h)
+  layout-there j h false true p q =
+      let l = ltb-true n j q in
+      rw (word-out s n m room size (16 * j + 4 * 0) (inr (omega arith)), word-out s n m room size (16 * j + 4 * 1) (inr (omega arith)))
+      (g .layouts j h)
+  layout-there j h false false p q =
+      let e : j ≡ n = omega (arith, ltb-false j n p, ltb-false n j q) in
+      rw (e, word-in s n m room size (4 * 0) (lit≤ tt), word-in s n m room size (4 * 1) (lit≤ tt)) ok
+
+  after : (i : ℕ) → 512 ≤ i → wordAt (withMailbox s n m) i ≡ wordAt s i
+  after i h = word-out s n m room size i (inr (omega arith))
+
+  pub block-stays : blockOf (withMailbox s n m) ≡ blockOf s
+  unfolding blockOf
+  block-stays = ap ofWords (words-same (withMailbox s n m) s registersAt 32 (λ k l. after (registersAt + 4 * k) (omega arith)))
+
+  pub mailbox-kept : GoodImage (withMailbox s n m)
+  unfolding goodSpare
+  mailbox-kept =
+      record {
+        bytes = bytes-with s n m room size (g .bytes) byte;
+        size = length-with s n m room size ∙ g .size;
+        layouts = λ j h. layout-there j h (ltb j n) (ltb n j) refl refl;
+        spare = rw (after 624 (lit≤ tt), after 628 (lit≤ tt), after 632 (lit≤ tt), after 636 (lit≤ tt)) (g .spare);
+        block = rw block-stays (g .block);
+      }
+
+-- ---- another register block; of the image before, its mailboxes alone matter
+
+module _ (s : List ℕ) (b : Block) (byte : Bytes s) (size : length s ≡ imageBytes) (layouts : (n : ℕ) → n < mailboxes → layout s n ≡ true) (ok : GoodBlock b) where
+  back : (k : ℕ) → k < 32 → wordAt (putBlock s b) (registersAt + 4 * k) ≡ getD (toWords b) k 0
+  back = word-back s b size (small b ok)
+
+  pub block-kept : GoodImage (putBlock s b)
+  unfolding goodSpare layout
+  block-kept =
+      record {
+        bytes = bytes-block s b byte;
+        size = length-block s b ∙ size;
+        layouts =
+            λ j h.
+            rw (word-stays s b (16 * j + 4 * 0) (omega arith), word-stays s b (16 * j + 4 * 1) (omega arith)) (layouts j h);
+        spare = rw (back 28 (lit< tt), back 29 (lit< tt), back 30 (lit< tt), back 31 (lit< tt));
+        block = rw (block-back s b size (small b ok)) ok;
+      }

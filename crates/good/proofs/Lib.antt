@@ -1,0 +1,3 @@
+-- Good images by their facts.
+pub mod Facts
+pub mod Image

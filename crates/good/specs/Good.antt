@@ -1,0 +1,192 @@
+-- What makes an image good: one named clause for each thing that document 01 asks under "The image", in its order.
+use Prim.Native.Nat.{ℕ, _+_, _*_, _/_, _%_, _^_}
+use mathlib.Core.Bool.{Bool, true, not, _&&_, _||_}
+use mathlib.Core.List.{List, [], _∷_}
+use lib.Dec.{eqb, ltb, leb}
+use lib.Bits.{bitAnd}
+use lib.ListN.{length}
+use Rattle.bits.specs.Bit.{bit, mask}
+use Rattle.bits.specs.Below.{allBelow}
+use Rattle.words.specs.Word.{wordAt}
+use Rattle.registers.specs.declared.Block.{Block}
+use Rattle.registers.specs.Block.{imageBytes, registersAt, blockOf, normal, noMode}
+use Rattle.registers.specs.Status.{filled, asleep, busOff}
+use Rattle.mailboxes.specs.Mailbox.{mailboxes, layout}
+
+-- ---- the words that the clauses are said in
+
+-- Do all tests of a list hold?
+abbrev pub everyFrom : Bool → List Bool → Bool
+everyFrom t [] = t
+everyFrom t (a ∷ l) = everyFrom (t && a) l
+
+abbrev pub every : List Bool → Bool
+every l = everyFrom true l
+
+-- Where a holds, so does b.
+abbrev pub implies : Bool → Bool → Bool
+implies a b = not a || b
+
+-- Is every bit of a a bit of b? Do a and b share none?
+abbrev pub within : ℕ → ℕ → Bool
+within a b = eqb (bitAnd a b) a
+
+abbrev pub apart : ℕ → ℕ → Bool
+apart a b = eqb (bitAnd a b) 0
+
+-- Bit 31 of a word of 32 bits is down: the word is below 2 ^ 31. It is up: the word is not.
+abbrev pub topDown : ℕ → Bool
+topDown w = ltb w (2 ^ 31)
+
+abbrev pub topUp : ℕ → Bool
+topUp w = leb (2 ^ 31) w
+
+-- Bits 30 and 29 are down.
+abbrev pub gapDown : ℕ → Bool
+gapDown w = eqb (w / 2 ^ 29 % 4) 0
+
+-- ---- the clauses on the register block
+
+-- The image, good image: bit 31 of MD is up, since mailbox 31 only receives.
+abbrev pub lastReceives : Block → Bool
+lastReceives b = topUp (b .md)
+
+-- The image, good image: so bit 31 is down in every word that belongs to sending.
+abbrev pub lastNeverSends : Block → List Bool
+lastNeverSends b =
+    topDown (b .trs) ∷ topDown (b .trr) ∷ topDown (b .ta) ∷ topDown (b .aa) ∷ topDown (b .cdr) ∷ topDown (b .mbtif) ∷ []
+
+-- The image, good image: a mailbox with a request is no receive mailbox.
+abbrev pub requestsTransmit : Block → Bool
+requestsTransmit b = apart (b .trs) (b .md)
+
+-- The image, good image: a cancel bit stands only at the slot's mailbox (with slot 31, at none: bit 31 of TRR is down),
+-- and only where a request is.
+abbrev pub cancelAtSlot : Block → Bool
+cancelAtSlot b = within (b .trr) (mask (b .slot))
+
+abbrev pub cancelOfRequest : Block → Bool
+cancelOfRequest b = within (b .trr) (b .trs)
+
+-- The image, good image: the lost flag and the remote flag stand only where a frame is pending.
+abbrev pub flagsOfPending : Block → List Bool
+flagsOfPending b = within (b .rml) (b .rmp) ∷ within (b .rfp) (b .rmp) ∷ []
+
+-- The image, good image: a mask has no bits 30 and 29.
+abbrev pub maskGaps : Block → List Bool
+maskGaps b = gapDown (b .lam) ∷ gapDown (b .gam) ∷ []
+
+-- The image, good image: the bounds of the words 15 to 21.
+abbrev pub ranges : Block → List Bool
+ranges b =
+    ltb (b .gif) 256
+    ∷ ltb (b .gim) 256
+    ∷ ltb (b .bcr1) 1024
+    ∷ ltb (b .bcr2) 1024
+    ∷ ltb (b .tsc) 65536
+    ∷ leb (b .tec) 256
+    ∷ leb (b .rec) 255
+    ∷ []
+
+-- The image, good image: the bounds of the words 22 to 27.
+abbrev pub states : Block → List Bool
+states b =
+    leb (b .mode) 3
+    ∷ leb (b .waiting) 4
+    ∷ leb (b .slot) 31
+    ∷ leb (b .recovery) 127
+    ∷ leb (b .options) 3
+    ∷ leb (b .tso) 1
+    ∷ []
+
+-- The image, good image: what is in the slot is being sent, so the mode is normal, the unit is not bus off, and the
+-- mailbox is enabled and has its request.
+abbrev pub slotAsks : Block → List Bool
+slotAsks b = eqb (b .mode) normal ∷ ltb (b .tec) 256 ∷ bit (b .trs) (b .slot) ∷ bit (b .mc) (b .slot) ∷ []
+
+abbrev pub slotNeeds : Block → Bool
+slotNeeds b = implies (filled b) (every (slotAsks b))
+
+-- The image, good image: bus off is a state of the normal mode.
+abbrev pub busOffNeeds : Block → Bool
+busOffNeeds b = implies (busOff b) (eqb (b .mode) normal)
+
+-- The image, good image: recovery counts in bus off only.
+abbrev pub recoveryNeeds : Block → Bool
+recoveryNeeds b = implies (ltb 0 (b .recovery)) (busOff b)
+
+-- The image, good image: a mode that waits is never the normal one, and it waits for a filled slot or for bus off.
+abbrev pub waitsForReason : Block → Bool
+waitsForReason b = implies (not (eqb (b .waiting) noMode)) (filled b || busOff b)
+
+abbrev pub waitingNeeds : Block → Bool
+waitingNeeds b = leb 1 (b .waiting) && waitsForReason b
+
+-- The image, good image: asleep nothing is counted and nothing is asked for.
+abbrev pub sleepAsks : Block → List Bool
+sleepAsks b = eqb (b .tec) 0 ∷ eqb (b .rec) 0 ∷ eqb (b .trs) 0 ∷ eqb (b .trr) 0 ∷ []
+
+abbrev pub sleepNeeds : Block → Bool
+sleepNeeds b = implies (asleep b) (every (sleepAsks b))
+
+-- ---- the clauses together, in three groups
+
+abbrev pub flagClauses : Block → List Bool
+flagClauses b =
+    lastReceives b
+    ∷ every (lastNeverSends b)
+    ∷ requestsTransmit b
+    ∷ cancelOfRequest b
+    ∷ every (flagsOfPending b)
+    ∷ every (maskGaps b)
+    ∷ []
+
+abbrev pub numberClauses : Block → List Bool
+numberClauses b =
+    every (ranges b)
+    ∷ every (states b)
+    ∷ busOffNeeds b
+    ∷ recoveryNeeds b
+    ∷ waitingNeeds b
+    ∷ sleepNeeds b
+    ∷ []
+
+abbrev pub slotClauses : Block → List Bool
+slotClauses b = cancelAtSlot b ∷ slotNeeds b ∷ []
+
+unfoldable pub goodFlags : Block → Bool
+goodFlags b = every (flagClauses b)
+
+unfoldable pub goodNumbers : Block → Bool
+goodNumbers b = every (numberClauses b)
+
+unfoldable pub goodSlot : Block → Bool
+goodSlot b = every (slotClauses b)
+
+unfoldable pub goodBlock : Block → Bool
+goodBlock b = every (goodFlags b ∷ goodNumbers b ∷ goodSlot b ∷ [])
+
+-- ---- the whole image
+
+-- The image, good image: every mailbox keeps to the layout, a disabled one too.
+unfoldable pub goodLayouts : List ℕ → Bool
+goodLayouts s = allBelow (layout s) mailboxes
+
+-- The image: the words 28 to 31 are zero.
+abbrev pub spareWords : List ℕ → List Bool
+spareWords s =
+    eqb (wordAt s (registersAt + 4 * 28)) 0
+    ∷ eqb (wordAt s (registersAt + 4 * 29)) 0
+    ∷ eqb (wordAt s (registersAt + 4 * 30)) 0
+    ∷ eqb (wordAt s (registersAt + 4 * 31)) 0
+    ∷ []
+
+unfoldable pub goodSpare : List ℕ → Bool
+goodSpare s = every (spareWords s)
+
+-- The image, good image: 640 bytes, and every clause above.
+abbrev pub contents : List ℕ → List Bool
+contents s = goodLayouts s ∷ goodSpare s ∷ goodBlock (blockOf s) ∷ []
+
+unfoldable pub goodImage : List ℕ → Bool
+goodImage s = eqb (length s) imageBytes && every (contents s)

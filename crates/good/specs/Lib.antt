@@ -1,0 +1,2 @@
+-- What makes an image good.
+pub mod Good

@@ -1,0 +1,2 @@
+-- Laws of mailboxes.
+pub mod Laws

@@ -1,0 +1,2 @@
+-- Mailboxes.
+pub mod Mailbox

@@ -1,0 +1,3 @@
+-- Laws of the register block.
+pub mod Laws
+pub mod Fields

@@ -1,0 +1,3 @@
+-- The register block.
+pub mod Block
+pub mod Status

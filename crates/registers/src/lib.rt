@@ -1,0 +1,182 @@
+// The register block: the words from byte 512 of the image, by value.
+mod status;
+ghost use mathlib.Core.Path.{_≡_};
+ghost use Prim.Native.Nat.{ℕ, _<_};
+ghost use lib.ListN.{length, getD};
+ghost use Rattle.registers.specs.Block.{imageBytes, ofWords, toWords, blockOf, putBlock, freshBlock};
+
+pub const IMAGE_BYTES: usize = 640;
+pub const REGISTERS_AT: usize = 512;
+
+// A field for each of the words 0 to 27; the words 28 to 31 are zero.
+pub struct Block {
+    // 0: MC: the mailbox is enabled
+    pub mc: u32,
+    // 1: MD: 1 receives, 0 transmits
+    pub md: u32,
+    // 2: TRS: a request to send waits
+    pub trs: u32,
+    // 3: TRR: the request in the slot is to be cancelled
+    pub trr: u32,
+    // 4: TA: sent
+    pub ta: u32,
+    // 5: AA: aborted
+    pub aa: u32,
+    // 6: RMP: a frame is held
+    pub rmp: u32,
+    // 7: RML: a held frame was overwritten
+    pub rml: u32,
+    // 8: LAM: mask of mailbox 31
+    pub lam: u32,
+    // 9: GAM: mask of mailboxes 0 to 30
+    pub gam: u32,
+    // 10: RFP: the held frame is a remote one
+    pub rfp: u32,
+    // 11: CDR: the data may be changed
+    pub cdr: u32,
+    // 12: MBTIF: transmit interrupts
+    pub mbtif: u32,
+    // 13: MBRIF: receive interrupts
+    pub mbrif: u32,
+    // 14: MBIM: which mailboxes interrupt
+    pub mbim: u32,
+    // 15: GIF: global interrupts
+    pub gif: u32,
+    // 16: GIM: which of them interrupt
+    pub gim: u32,
+    // 17: BCR1
+    pub bcr1: u32,
+    // 18: BCR2
+    pub bcr2: u32,
+    // 19: TSC: the time stamp counter
+    pub tsc: u32,
+    // 20: TEC: transmit error counter, 256 is bus off
+    pub tec: u32,
+    // 21: REC: receive error counter
+    pub rec: u32,
+    // 22: 0 normal, 1 configuration, 2 sleep, 3 suspend
+    pub mode: u32,
+    // 23: the mode that waits, 4 none
+    pub waiting: u32,
+    // 24: the mailbox that is being sent, 31 none
+    pub slot: u32,
+    // 25: how often eleven recessive bits were seen in bus off
+    pub recovery: u32,
+    // 26: bit 0 MTOS, bit 1 WUBA
+    pub options: u32,
+    // 27: TSO: the time stamp counter overflowed
+    pub tso: u32,
+}
+
+impl Block {
+    fn from_words(row: [u32; 32]) -> Block
+        ensures { λ r. ⌜ r ≡ ofWords row ⌝ }
+    {
+        Block {
+            mc: row[0],
+            md: row[1],
+            trs: row[2],
+            trr: row[3],
+            ta: row[4],
+            aa: row[5],
+            rmp: row[6],
+            rml: row[7],
+            lam: row[8],
+            gam: row[9],
+            rfp: row[10],
+            cdr: row[11],
+            mbtif: row[12],
+            mbrif: row[13],
+            mbim: row[14],
+            gif: row[15],
+            gim: row[16],
+            bcr1: row[17],
+            bcr2: row[18],
+            tsc: row[19],
+            tec: row[20],
+            rec: row[21],
+            mode: row[22],
+            waiting: row[23],
+            slot: row[24],
+            recovery: row[25],
+            options: row[26],
+            tso: row[27],
+        }
+    }
+
+    fn to_words(self) -> [u32; 32]
+        ensures { λ r. ⌜ r ≡ toWords self ⌝ }
+    {
+        [
+            self.mc,
+            self.md,
+            self.trs,
+            self.trr,
+            self.ta,
+            self.aa,
+            self.rmp,
+            self.rml,
+            self.lam,
+            self.gam,
+            self.rfp,
+            self.cdr,
+            self.mbtif,
+            self.mbrif,
+            self.mbim,
+            self.gif,
+            self.gim,
+            self.bcr1,
+            self.bcr2,
+            self.tsc,
+            self.tec,
+            self.rec,
+            self.mode,
+            self.waiting,
+            self.slot,
+            self.recovery,
+            self.options,
+            self.tso,
+            0,
+            0,
+            0,
+            0,
+        ]
+    }
+
+    // The block of an image.
+    pub fn load(s: &[u8]) -> Block
+        requires { ⌜ length (now s) ≡ imageBytes ⌝ }
+        ensures { λ r. ⌜ r ≡ blockOf (now (s .entry)) ⌝ }
+    {
+        Block::from_words(words::load_words(s, REGISTERS_AT))
+    }
+
+    // The block put into an image; no byte of a mailbox moves.
+    pub fn store(self, s: &mut [u8])
+        requires { ⌜ length (now s) ≡ imageBytes ⌝ }
+        ensures { λ r. ⌜ now (s .exit) ≡ putBlock (now (s .entry)) self ⌝ }
+    {
+        words::put_words(s, REGISTERS_AT, self.to_words())
+    }
+
+    // The word k.
+    pub fn word(self, k: usize) -> u32
+        requires { ⌜ k < 32 ⌝ }
+        ensures { λ r. ⌜ r ≡ getD (toWords self) k 0 ⌝ }
+    {
+        let row = self.to_words();
+        row[k]
+    }
+
+    // The block of a fresh model.
+    pub fn fresh() -> Block
+        ensures { λ r. ⌜ r ≡ freshBlock ⌝ }
+    {
+        let mut row = [0u32; 32];
+        row[1] = 0x8000_0000;
+        row[22] = 1;
+        row[23] = 4;
+        row[24] = 31;
+        Block::from_words(row)
+    }
+}

@@ -1,0 +1,4 @@
+-- Laws of words in bytes.
+pub mod Laws
+pub mod Rows
+pub mod Bytes
