@@ -4,7 +4,7 @@
  * A model is 640 bytes that belong to the caller: the image. Bytes 0 to 511 are the mailboxes, 16
  * bytes each; from byte 512 on stand the 32 register words, low byte first. The library keeps
  * nothing between calls, allocates nothing, and touches no other memory, so every image is a model
- * of its own.
+ * of its own. Link the archive with a C library: the compiled code may call memset and its like.
  *
  * A pointer and the length after it name the caller's bytes. The pointer must be valid, also where
  * the length is 0, and needs no alignment; nobody else may write those bytes during the call.

@@ -143,6 +143,12 @@ slot-too-high b h = off (goodFlags b) (goodNumbers b) (goodSlot b) (λ p. let l 
     off true false z f = refl
     off false y z f = refl
 
+pub slot-below : (b : Block) → goodBlock b ≡ true → b .slot < 32
+unfolding goodBlock
+slot-below b h =
+    let l = slot-fits b (all (goodFlags b ∷ goodNumbers b ∷ goodSlot b ∷ []) h .1 .0) in
+    omega arith
+
 module _ (b : Block) (w : WideBlock b) (h : goodBlock b ≡ true) where
   groups : All (goodFlags b ∷ goodNumbers b ∷ goodSlot b ∷ [])
   unfolding goodBlock

@@ -19,7 +19,7 @@ use Rattle.registers.proofs.Laws.{Small, length-block, bytes-block, word-stays,
 use Rattle.mailboxes.specs.Mailbox.{mailboxes, withMailbox, layout}
 use Rattle.mailboxes.proofs.Laws.{length-with, bytes-with, word-in, word-out}
 use Rattle.good.specs.Good.{every, contents, goodLayouts, goodSpare, goodImage}
-use Rattle.good.proofs.Facts.{all, holds, WideBlock, GoodBlock, block-facts, block-good}
+use Rattle.good.proofs.Facts.{all, holds, WideBlock, GoodBlock, slot-below, block-facts, block-good}
 
 -- ---- the facts
 
@@ -46,6 +46,11 @@ wide s h =
 pub good-length : (s : List ℕ) → goodImage s ≡ true → length s ≡ imageBytes
 unfolding goodImage
 good-length s g = eqb-true _ _ (and-l (eqb (length s) imageBytes) (every (contents s)) g)
+
+pub good-slot : (s : List ℕ) → goodImage s ≡ true → blockOf s .slot < 32
+unfolding goodImage
+good-slot s g =
+    slot-below (blockOf s) (all (contents s) (and-r (eqb (length s) imageBytes) (every (contents s)) g) .1 .1 .0)
 
 pub image-facts : (s : List ℕ) → Bytes s → goodImage s ≡ true → GoodImage s
 unfolding goodImage goodLayouts

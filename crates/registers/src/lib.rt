@@ -1,11 +1,12 @@
 // The register block: the words from byte 512 of the image, by value.
 mod status;
+
 ghost use mathlib.Core.Path.{_≡_};
-ghost use Prim.Native.Nat.{ℕ, _<_};
-ghost use lib.ListN.{length, getD};
+ghost use lib.ListN.{length};
 ghost use Rattle.registers.specs.Block.{imageBytes, ofWords, toWords, blockOf, putBlock, freshBlock};
 
 pub const IMAGE_BYTES: usize = 640;
+
 pub const REGISTERS_AT: usize = 512;
 
 // A field for each of the words 0 to 27; the words 28 to 31 are zero.
@@ -157,15 +158,6 @@ impl Block {
         ensures { λ r. ⌜ now (s .exit) ≡ putBlock (now (s .entry)) self ⌝ }
     {
         words::put_words(s, REGISTERS_AT, self.to_words())
-    }
-
-    // The word k.
-    pub fn word(self, k: usize) -> u32
-        requires { ⌜ k < 32 ⌝ }
-        ensures { λ r. ⌜ r ≡ getD (toWords self) k 0 ⌝ }
-    {
-        let row = self.to_words();
-        row[k]
     }
 
     // The block of a fresh model.

@@ -1,0 +1,2 @@
+-- A promise leaves no choice.
+pub mod Unique

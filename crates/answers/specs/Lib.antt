@@ -1,0 +1,2 @@
+-- What a call leaves and answers.
+pub mod Answer

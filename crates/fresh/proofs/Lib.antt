@@ -1,0 +1,2 @@
+-- The fresh image.
+pub mod Good

@@ -1,0 +1,2 @@
+-- A fresh model.
+pub mod Fresh

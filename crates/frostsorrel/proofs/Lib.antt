@@ -1,0 +1,2 @@
+-- The entry points leave no choice.
+pub mod Unique

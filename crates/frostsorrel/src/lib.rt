@@ -1,0 +1,20 @@
+// The C entry points.
+ghost use Rattle.answers.specs.Answer.{Promise, ReadPromise};
+ghost use Rattle.fresh.specs.Fresh.{fresh};
+ghost use Rattle.reading.specs.Read.{read};
+
+// uint64_t frostsorrel_fresh(uint8_t *image, size_t image_len)
+#[no_mangle]
+pub extern "C" fn frostsorrel_fresh(image: &mut [u8]) -> u64
+    ensures { λ r. ⌜ Promise (fresh (now (image .entry))) (now (image .exit)) r ⌝ }
+{
+    fresh::fresh(image)
+}
+
+// uint64_t frostsorrel_read(const uint8_t *image, size_t image_len, uint32_t number)
+#[no_mangle]
+pub extern "C" fn frostsorrel_read(image: &[u8], number: u32) -> u64
+    ensures { λ r. ⌜ ReadPromise (read (now (image .entry)) number) r ⌝ }
+{
+    reading::read(image, number)
+}

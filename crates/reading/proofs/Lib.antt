@@ -1,0 +1,2 @@
+-- Reading a register.
+pub mod Laws

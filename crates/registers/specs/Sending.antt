@@ -1,0 +1,43 @@
+-- What starting and its outcome do to the block.
+use Prim.Native.Nat.{ℕ, _+_, _-_, min}
+use mathlib.Core.Bool.{not}
+use lib.Dec.{eqb}
+use lib.Bits.{bitAnd, bitOr}
+use Rattle.bits.specs.Bit.{without}
+use Rattle.registers.specs.declared.Block.{Block}
+use Rattle.registers.specs.Block.{withTrs, withTrr, withTa, withAa, withMbtif, withGif, withTec, withSlot, emptySlot, busOffAt}
+use Rattle.registers.specs.Writes.{slotMask, gifWith}
+
+-- Sending: which mailboxes may start: a request and enabled, neither held back by CDR nor being cancelled.
+abbrev pub eligible : Block → ℕ
+eligible b = without (without (bitAnd (b .trs) (b .mc)) (b .cdr)) (b .trr)
+
+-- Sending: a start puts the chosen mailbox into the slot.
+abbrev pub started : Block → ℕ → Block
+started b n = withSlot b n
+
+-- Sending, outcome sent: the request and its cancel bit end, TA says so, MBTIF under MBIM, TEC falls by one unless it is 0.
+unfoldable pub sent : Block → Block
+sent b =
+    withSlot
+    (withTec
+    (withMbtif
+    (withTa (withTrr (withTrs b (without (b .trs) (slotMask b))) (without (b .trr) (slotMask b))) (bitOr (b .ta) (slotMask b)))
+    (bitOr (b .mbtif) (bitAnd (b .mbim) (slotMask b))))
+    (b .tec - 1))
+    emptySlot
+
+-- Sending, other outcomes: a request with its cancel bit ends, which AA and GIF bit 4 say; without it, it stays. TEC rises
+-- by what the outcome adds, up to 256.
+abbrev pub aborting : Block → ℕ
+aborting b = bitAnd (slotMask b) (b .trr)
+
+unfoldable pub failed : Block → ℕ → Block
+failed b more =
+    withSlot
+    (withTec
+    (withGif
+    (withAa (withTrr (withTrs b (without (b .trs) (aborting b))) (without (b .trr) (aborting b))) (bitOr (b .aa) (aborting b)))
+    (gifWith b (not (eqb (aborting b) 0)) 4))
+    (min busOffAt (b .tec + more)))
+    emptySlot
