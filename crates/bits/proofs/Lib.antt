@@ -1,4 +1,5 @@
--- Laws of flag words.
+-- Laws of flag words and of tests.
 pub mod Laws
 pub mod Sets
+pub mod Tests
 pub mod Below

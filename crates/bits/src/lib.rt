@@ -1,8 +1,8 @@
 // Flag words: one bit for each mailbox. Everything here is said for any bit number.
 ghost use mathlib.Core.Path.{_≡_};
-ghost use mathlib.Core.Bool.{Bool};
 ghost use Prim.Native.Nat.{ℕ, _<_};
 ghost use Rattle.bits.specs.Bit.{bit, mask as maskOf, setBit, clearBit, without as withoutOf, flag as flagOf};
+ghost use mathlib.Core.Bool.{cond};
 
 // The word whose only bit is n.
 pub fn mask(n: u32) -> u32
@@ -49,4 +49,11 @@ pub fn flag(t: bool, n: u32) -> u32
     ensures { λ r. ⌜ r ≡ flagOf t n ⌝ }
 {
     if t { mask(n) } else { 0 }
+}
+
+// One of two words: a choice inside a word, not between blocks.
+pub fn choose(t: bool, a: u32, b: u32) -> u32
+    ensures { λ r. ⌜ r ≡ cond t a b ⌝ }
+{
+    if t { a } else { b }
 }

@@ -9,38 +9,12 @@ use lib.Dec.{eqb, ltb, leb}
 use borrow.Author.Tests.{ltb-true, leb-true, eqb-true, eqb-false, lt-ltb, le-leb, eq-eqb, ne-eqb, not-true}
 use Rattle.bits.specs.Bit.{bit, mask}
 use Rattle.bits.proofs.Sets.{both, and-l, and-r, Within, Apart, within-word, word-within, apart-word, word-apart}
+use Rattle.bits.specs.Tests.{every, implies}
+use Rattle.bits.proofs.Tests.{All, all, holds, given, implied}
 use Rattle.registers.specs.declared.Block.{Block}
 use Rattle.registers.specs.Block.{normal, sleep, noMode, emptySlot, busOffAt}
 use Rattle.registers.specs.Status.{filled, asleep, busOff}
-use Rattle.good.specs.Good.{every, everyFrom, implies, lastNeverSends, flagsOfPending, maskGaps, ranges, states, slotAsks, sleepAsks, waitsForReason, flagClauses, numberClauses, slotClauses, goodFlags, goodNumbers, goodSlot, goodBlock}
-
--- ---- lists of tests
-
-abbrev pub All : List Bool → Type 0
-All [] = Unit
-All (a ∷ l) = (a ≡ true) × (All l)
-
-every-all : (t : Bool) (l : List Bool) → everyFrom t l ≡ true → (t ≡ true) × (All l)
-every-all t [] h = (h, tt)
-every-all t (a ∷ l) h = let r = every-all (t && a) l h in (and-l t a (r .0), (and-r t a (r .0), r .1))
-
-all-every : (t : Bool) (l : List Bool) → t ≡ true → All l → everyFrom t l ≡ true
-all-every t [] p h = p
-all-every t (a ∷ l) p h = all-every (t && a) l (rw (p, h .0)) (h .1)
-
-pub all : (l : List Bool) → every l ≡ true → All l
-all l h = every-all true l h .1
-
-pub holds : (l : List Bool) → All l → every l ≡ true
-holds l h = all-every true l refl h
-
-given : (a b : Bool) → implies a b ≡ true → a ≡ true → b ≡ true
-given true b h p = h
-given false b h p = absurd (false≢true p)
-
-implied : (a b : Bool) → (a ≡ true → b ≡ true) → implies a b ≡ true
-implied true b h = h refl
-implied false b h = refl
+use Rattle.good.specs.Good.{lastNeverSends, flagsOfPending, maskGaps, ranges, states, slotAsks, sleepAsks, waitsForReason, flagClauses, numberClauses, slotClauses, goodFlags, goodNumbers, goodSlot, goodBlock}
 
 not-eqb : (n k : ℕ) → n ≢ k → not (eqb n k) ≡ true
 not-eqb n k h = rw (ne-eqb n k h)

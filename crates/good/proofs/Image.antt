@@ -10,6 +10,8 @@ use lib.ListN.{getD, length}
 use borrow.Author.Tests.{eqb-true, eq-eqb, ltb-true, ltb-false}
 use Rattle.bits.proofs.Sets.{both, and-l, and-r, within-le}
 use Rattle.bits.proofs.Below.{each-below, all-below}
+use Rattle.bits.specs.Tests.{every}
+use Rattle.bits.proofs.Tests.{all, holds}
 use Rattle.words.specs.Word.{wordAt, wordsOf}
 use Rattle.words.proofs.Rows.{words-same}
 use Rattle.words.proofs.Bytes.{Bytes, word-lt}
@@ -18,8 +20,8 @@ use Rattle.registers.specs.Block.{imageBytes, registersAt, blockOf, putBlock, o
 use Rattle.registers.proofs.Laws.{Small, length-block, bytes-block, word-stays, word-back, block-back}
 use Rattle.mailboxes.specs.Mailbox.{mailboxes, withMailbox, layout}
 use Rattle.mailboxes.proofs.Laws.{length-with, bytes-with, word-in, word-out}
-use Rattle.good.specs.Good.{every, contents, goodLayouts, goodSpare, goodImage}
-use Rattle.good.proofs.Facts.{all, holds, WideBlock, GoodBlock, slot-below, block-facts, block-good}
+use Rattle.good.specs.Good.{contents, goodLayouts, goodSpare, goodImage}
+use Rattle.good.proofs.Facts.{WideBlock, GoodBlock, slot-below, block-facts, block-good}
 
 -- ---- the facts
 

@@ -7,43 +7,12 @@ use lib.Bits.{bitAnd}
 use lib.ListN.{length}
 use Rattle.bits.specs.Bit.{bit, mask}
 use Rattle.bits.specs.Below.{allBelow}
+use Rattle.bits.specs.Tests.{every, implies, within, apart, topDown, topUp, gapDown}
 use Rattle.words.specs.Word.{wordAt}
 use Rattle.registers.specs.declared.Block.{Block}
 use Rattle.registers.specs.Block.{imageBytes, registersAt, blockOf, normal, noMode}
 use Rattle.registers.specs.Status.{filled, asleep, busOff}
 use Rattle.mailboxes.specs.Mailbox.{mailboxes, layout}
-
--- ---- the words that the clauses are said in
-
--- Do all tests of a list hold?
-abbrev pub everyFrom : Bool → List Bool → Bool
-everyFrom t [] = t
-everyFrom t (a ∷ l) = everyFrom (t && a) l
-
-abbrev pub every : List Bool → Bool
-every l = everyFrom true l
-
--- Where a holds, so does b.
-abbrev pub implies : Bool → Bool → Bool
-implies a b = not a || b
-
--- Is every bit of a a bit of b? Do a and b share none?
-abbrev pub within : ℕ → ℕ → Bool
-within a b = eqb (bitAnd a b) a
-
-abbrev pub apart : ℕ → ℕ → Bool
-apart a b = eqb (bitAnd a b) 0
-
--- Bit 31 of a word of 32 bits is down: the word is below 2 ^ 31. It is up: the word is not.
-abbrev pub topDown : ℕ → Bool
-topDown w = ltb w (2 ^ 31)
-
-abbrev pub topUp : ℕ → Bool
-topUp w = leb (2 ^ 31) w
-
--- Bits 30 and 29 are down.
-abbrev pub gapDown : ℕ → Bool
-gapDown w = eqb (w / 2 ^ 29 % 4) 0
 
 -- ---- the clauses on the register block
 

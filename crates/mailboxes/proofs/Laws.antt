@@ -1,12 +1,13 @@
 -- A mailbox replaced by any 16 bytes: it is what was put, and every other byte stays.
 use Prim.Native.Nat.{ℕ, zero, suc, _+_, _-_, _*_, _<_, _≤_}
 use mathlib.Core.Path.{_≡_, refl, sym, _∙_, ap}
-use mathlib.Core.Bool.{true}
+use mathlib.Core.Bool.{Bool, true, false, cond}
 use mathlib.Core.List.{List, _++_}
 use mathlib.Core.Logic.{_⊎_, inl, inr, _≢_}
 use native.Mathlib.Omega.{arith}
 use lib.ListN.{getD, length, take, drop, length-append, length-drop, List·getD-append}
-use lib.Seq.{getD-append-add, getD-take, getD-drop, length-take-le}
+use lib.Seq.{getD-append-add, getD-take, getD-drop, length-take-le, drop-drop}
+use borrow.Rule.Slice.PartMut.{putMid}
 use Rattle.words.specs.Word.{wordAt}
 use Rattle.words.proofs.Laws.{word-by-bytes}
 use Rattle.words.proofs.Bytes.{Bytes, bytes-take, bytes-drop, bytes-append}
@@ -80,9 +81,24 @@ module _ (s : List ℕ) (n : ℕ) (m : List ℕ) (room : 16 * n + 16 ≤ length 
   word-out i (inl h) = word-by-bytes (withMailbox s n m) s i i (λ k l. byte-out (i + k) (inl (omega arith)))
   word-out i (inr h) = word-by-bytes (withMailbox s n m) s i i (λ k l. byte-out (i + k) (inr (omega arith)))
 
+-- ---- what a writer leaves of the mailbox that it was lent
+
+pub lent : (s : List ℕ) (n : ℕ) (write : List ℕ → List ℕ) (m : List ℕ) → m ≡ write (take (16 * n + 16 - 16 * n) (drop (16 * n) s))
+    → putMid (16 * n) (16 * n + 16 - 16 * n) s m ≡ withMailbox s n (write (mailbox s n))
+unfolding mailbox withMailbox
+lent s n write m e =
+    let size : 16 * n + 16 - 16 * n ≡ 16 = omega arith in
+    rw (e, size, drop-drop)
+
 -- ---- a data word may be anything
 
 pub data-free : (k w : ℕ) → k ≢ 0 → k ≢ 1 → wordLayout k w ≡ true
 data-free zero w a b = absurd (a refl)
 data-free (suc zero) w a b = absurd (b refl)
 data-free (suc (suc k)) w a b = refl
+
+-- ---- a flag, or what only some frames add, is at most what it is where the test holds
+
+pub cond-le : (t : Bool) (a r : ℕ) → r ≡ cond t a 0 → r ≤ a
+cond-le true a r e = omega arith
+cond-le false a r e = omega arith

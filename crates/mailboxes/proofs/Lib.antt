@@ -1,2 +1,5 @@
 -- Laws of mailboxes.
 pub mod Laws
+pub mod Spliced
+pub mod Filed
+pub mod Arbitration

@@ -1,2 +1,4 @@
 -- Mailboxes.
 pub mod Mailbox
+pub mod Arbitration
+pub mod Filing

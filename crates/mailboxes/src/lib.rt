@@ -1,9 +1,22 @@
 // A mailbox: 16 bytes of the image, four words.
+mod filing;
+mod keys;
+
+pub use filing::data_bytes;
+pub use filing::put_frame;
+pub use filing::put_stamp;
+pub use keys::identifier_of;
+pub use keys::key_of;
 ghost use mathlib.Core.Path.{_≡_};
 ghost use Prim.Native.Nat.{ℕ, _+_, _*_, _<_, _≤_};
 ghost use lib.ListN.{length};
 ghost use Rattle.words.specs.Word.{putWord};
 ghost use Rattle.mailboxes.specs.Mailbox.{mailboxWord, mailbox, withMailbox, wordLayout, layout as layoutOf};
+
+// An identifier and an arbitration key: two numbers of 32 bits that are never one another.
+pub struct Identifier(pub u32);
+
+pub struct Key(pub u32);
 
 pub const MAILBOX_BYTES: usize = 16;
 

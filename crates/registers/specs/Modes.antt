@@ -1,5 +1,5 @@
 -- Counters, modes, ticks: what happens to the block between the firmware's writes.
-use Prim.Native.Nat.{ℕ, _+_, _-_, _%_, min}
+use Prim.Native.Nat.{ℕ, _+_, _%_}
 use mathlib.Core.Bool.{Bool, cond, not, _&&_}
 use lib.Dec.{eqb, ltb}
 use lib.Bits.{bitOr}
@@ -8,6 +8,10 @@ use Rattle.registers.specs.declared.Block.{Block}
 use Rattle.registers.specs.Block.{withTrs, withTrr, withGif, withTsc, withTec, withRec, withMode, withWaiting, withRecovery, withOptions, withTso, normal, sleep, noMode, busOffAt}
 use Rattle.registers.specs.Status.{vacant, asleep, busOff, passive, warning}
 use Rattle.registers.specs.Writes.{gifWith}
+
+-- A counter that stops at k.
+abbrev pub atMost : ℕ → ℕ → ℕ
+atMost k x = cond (ltb k x) k x
 
 -- Receiving: the unit takes part on the bus in normal mode, unless it is bus off.
 abbrev pub onBus : Block → Bool
@@ -25,7 +29,7 @@ ticked b =
 
 -- Receiving: an error that a receiver sees adds 1 or 8 to REC, which stops at 255.
 unfoldable pub worsened : Block → ℕ → Block
-worsened b v = withRec b (cond (onBus b) (min 255 (b .rec + v)) (b .rec))
+worsened b v = withRec b (cond (onBus b) (atMost 255 (b .rec + v)) (b .rec))
 
 -- Sending, errors, modes: eleven recessive bits count in bus off only; the 128th ends it.
 abbrev pub recovers : Block → Bool

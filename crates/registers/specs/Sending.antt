@@ -1,5 +1,5 @@
 -- What starting and its outcome do to the block.
-use Prim.Native.Nat.{ℕ, _+_, _-_, min}
+use Prim.Native.Nat.{ℕ, _+_, _-_}
 use mathlib.Core.Bool.{not}
 use lib.Dec.{eqb}
 use lib.Bits.{bitAnd, bitOr}
@@ -7,6 +7,7 @@ use Rattle.bits.specs.Bit.{without}
 use Rattle.registers.specs.declared.Block.{Block}
 use Rattle.registers.specs.Block.{withTrs, withTrr, withTa, withAa, withMbtif, withGif, withTec, withSlot, emptySlot, busOffAt}
 use Rattle.registers.specs.Writes.{slotMask, gifWith}
+use Rattle.registers.specs.Modes.{atMost}
 
 -- Sending: which mailboxes may start: a request and enabled, neither held back by CDR nor being cancelled.
 abbrev pub eligible : Block → ℕ
@@ -39,5 +40,5 @@ failed b more =
     (withGif
     (withAa (withTrr (withTrs b (without (b .trs) (aborting b))) (without (b .trr) (aborting b))) (bitOr (b .aa) (aborting b)))
     (gifWith b (not (eqb (aborting b) 0)) 4))
-    (min busOffAt (b .tec + more)))
+    (atMost busOffAt (b .tec + more)))
     emptySlot

@@ -1,5 +1,9 @@
 // The register block: the words from byte 512 of the image, by value.
+mod frames;
+mod modes;
+mod sending;
 mod status;
+mod writes;
 
 ghost use mathlib.Core.Path.{_≡_};
 ghost use lib.ListN.{length};

@@ -1,8 +1,7 @@
-use native.Mathlib.Omega.{arith}
-use lib.Seq.{drop-drop}
-use mathlib.Core.Path.{_≡_}
-use Prim.Native.Nat.{_+_, _*_, _-_}
-use Rattle.mailboxes.specs.Mailbox.{mailbox, withMailbox}
+use denote.Ref.{now}
+use Prim.Native.Nat.{_*_}
+use Rattle.words.specs.Word.{putWord}
+use Rattle.mailboxes.proofs.Laws.{lent}
 use borrow.Author.Needs.{needs}
 use Rattle.mailboxes.proofs.put_word.Statement.{statement}
 use Rattle.mailboxes.proofs.put_word.Tie as tie
@@ -29,11 +28,9 @@ same-length : tie.Need-same-length
 same-length c = search needs
 
 returns : tie.Need-returns
-unfolding mailbox withMailbox
 returns c =
     let a = c .before .before .before .before .before .args in
-    let size : 16 * a .n + 16 - 16 * a .n ≡ 16 = omega arith in
-    rw (c .before .before .write-word .ensures, size, drop-drop)
+    lent (now (a .s)) (a .n) (λ m. putWord m (4 * a .k) (a .v)) _ (c .before .before .write-word .ensures)
 
 pub put-word-spec : {M : Type 1} → statement M
 put-word-spec =

@@ -1,0 +1,49 @@
+// Frame events.
+ghost use mathlib.Core.Path.{_≡_};
+ghost use mathlib.Core.Bool.{Bool};
+ghost use lib.ListN.{length};
+ghost use Rattle.events.specs.Parts.{eventBytes, frameOf, frameAllowed};
+ghost use Rattle.events.specs.Decode.{decodedAs};
+use crate::Event;
+use crate::Frame;
+use crate::parts::payload;
+use crate::parts::quiet;
+use crate::parts::target;
+use crate::parts::value;
+use mailboxes::Identifier;
+
+// The frame of an event, read without a test.
+fn frame_of(e: &[u8]) -> Frame
+    requires { ⌜ length (now e) ≡ eventBytes ⌝ }
+    ensures { λ r. ⌜ r ≡ frameOf (now (e .entry)) ⌝ }
+{
+    let v = value(e);
+    Frame {
+        ide: bits::test(v, 31),
+        rtr: bits::test(v, 30),
+        id: Identifier(v % 536870912),
+        dlc: target(e),
+        bytes: payload(e),
+    }
+}
+
+fn is_frame_allowed(e: &[u8]) -> bool
+    requires { ⌜ length (now e) ≡ eventBytes ⌝ }
+    ensures { λ r. ⌜ r ≡ frameAllowed (now (e .entry)) ⌝ }
+{
+    let v = value(e);
+    (target(e) <= 8) & !bits::test(v, 29) & (bits::test(v, 31) | (v % 262144 == 0))
+}
+
+// Operation 2.
+pub fn frame_event(asleep: bool, e: &[u8]) -> Event
+    requires { ⌜ length (now e) ≡ eventBytes ⌝ }
+    ensures { λ r. ⌜ r ≡ decodedAs 2 asleep (now (e .entry)) ⌝ }
+{
+    let n = mailboxes::data_bytes(bits::test(value(e), 30), target(e));
+    if quiet(e, true, false, true, n) & is_frame_allowed(e) {
+        Event::Heard { frame: frame_of(e) }
+    } else {
+        Event::Refused { number: 4 }
+    }
+}

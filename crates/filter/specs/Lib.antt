@@ -1,0 +1,2 @@
+-- Filtering.
+pub mod Filter

@@ -1,0 +1,3 @@
+-- The step.
+pub mod Step
+pub mod Ready

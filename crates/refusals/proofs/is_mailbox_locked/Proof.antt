@@ -1,0 +1,15 @@
+use borrow.Author.Needs.{needs}
+use Rattle.refusals.proofs.is_mailbox_locked.Statement.{statement}
+use Rattle.refusals.proofs.is_mailbox_locked.Tie as tie
+
+test-requires : tie.Need-test-requires
+test-requires c κs = search needs
+
+is-data-locked-requires : tie.Need-is-data-locked-requires
+is-data-locked-requires c κs = search needs
+
+returns : tie.Need-returns
+returns c = cc
+
+pub is-mailbox-locked-spec : {M : Type 1} → statement M
+is-mailbox-locked-spec = tie.close (tie.spec test-requires is-data-locked-requires returns)

@@ -1,0 +1,12 @@
+use borrow.Author.Needs.{needs}
+use Rattle.refusals.proofs.turned_round.Statement.{statement}
+use Rattle.refusals.proofs.turned_round.Tie as tie
+
+set-requires : tie.Need-set-requires
+set-requires c κs = search needs
+
+returns : tie.Need-returns
+returns c = cc
+
+pub turned-round-spec : {M : Type 1} → statement M
+turned-round-spec = tie.close (tie.spec set-requires returns)

@@ -1,0 +1,12 @@
+use borrow.Author.Needs.{needs}
+use Rattle.registers.proofs.Block.is_recovering.Statement.{statement}
+use Rattle.registers.proofs.Block.is_recovering.Tie as tie
+
+is-bus-off-requires : tie.Need-is-bus-off-requires
+is-bus-off-requires c κs = search needs
+
+returns : tie.Need-returns
+returns c = cc
+
+pub is-recovering-spec : {M : Type 1} → statement M
+is-recovering-spec = tie.close (tie.spec is-bus-off-requires returns)

@@ -1,0 +1,12 @@
+use borrow.Author.Needs.{needs}
+use Rattle.registers.proofs.Block.reply.Statement.{statement}
+use Rattle.registers.proofs.Block.reply.Tie as tie
+
+set-requires : tie.Need-set-requires
+set-requires c κs = search needs
+
+returns : tie.Need-returns
+returns c = cc
+
+pub reply-spec : {M : Type 1} → statement M
+reply-spec = tie.close (tie.spec set-requires returns)

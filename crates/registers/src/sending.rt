@@ -1,0 +1,54 @@
+// What starting and its outcome do to the block.
+ghost use mathlib.Core.Path.{_≡_};
+ghost use Prim.Native.Nat.{ℕ, _<_, _≤_};
+ghost use Rattle.registers.specs.Sending.{eligible as eligibleOf, started, sent, failed};
+use crate::Block;
+use crate::frames::less_one;
+use crate::modes::at_most;
+
+impl Block {
+    // The mailboxes that may start.
+    pub fn eligible(self) -> u32
+        ensures { λ r. ⌜ r ≡ eligibleOf self ⌝ }
+    {
+        bits::without(bits::without(self.trs & self.mc, self.cdr), self.trr)
+    }
+
+    // Mailbox n goes into the slot.
+    pub fn start(mut self, n: u32) -> Block
+        ensures { λ r. ⌜ r ≡ started self n ⌝ }
+    {
+        self.slot = n;
+        self
+    }
+
+    // The slot's mailbox was sent.
+    pub fn send(mut self) -> Block
+        requires { ⌜ self .slot < 32 ⌝ }
+        ensures { λ r. ⌜ r ≡ sent self ⌝ }
+    {
+        let x = self.slot_mask();
+        self.trs = bits::without(self.trs, x);
+        self.trr = bits::without(self.trr, x);
+        self.ta = self.ta | x;
+        self.mbtif = self.mbtif | (self.mbim & x);
+        self.tec = less_one(self.tec);
+        self.slot = 31;
+        self
+    }
+
+    // It was not; TEC rises by `more`.
+    pub fn fail(mut self, more: u32) -> Block
+        requires { ⌜ (self .slot < 32) × (self .tec ≤ 256) × (more ≤ 8) ⌝ }
+        ensures { λ r. ⌜ r ≡ failed self more ⌝ }
+    {
+        let x = self.slot_mask() & self.trr;
+        self.trs = bits::without(self.trs, x);
+        self.trr = bits::without(self.trr, x);
+        self.aa = self.aa | x;
+        self.gif = self.gif | bits::flag(x != 0, 4);
+        self.tec = at_most(256, self.tec + more);
+        self.slot = 31;
+        self
+    }
+}

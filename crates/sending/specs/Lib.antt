@@ -1,0 +1,2 @@
+-- The choice of what to send.
+pub mod Choice
