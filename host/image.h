@@ -3,9 +3,13 @@
 #define IMAGE_H
 
 #include <stdint.h>
+#include <stdio.h>
 #include <string.h>
 
 #include "frostsorrel.h"
+
+#define BYTES FROSTSORREL_IMAGE_BYTES
+#define WORDS (BYTES / 4)
 
 /* Word k of mailbox n. */
 #define MAILBOX(n, k) (4 * (n) + (k))
@@ -16,22 +20,65 @@ enum {
     BCR1, BCR2, TSC, TEC, REC, MODE, WAITING, SLOT, RECOVERY, OPTIONS, TSO, SPARE
 };
 
-enum { NORMAL_MODE = 0, CONFIGURATION = 1, SLEEP = 2, SUSPEND = 3 };
+enum { NORMAL_MODE = 0, CONFIGURATION = 1, SLEEP = 2, SUSPEND = 3, NO_MODE = 4 };
+enum { EMPTY_SLOT = 31, BUS_OFF_TEC = 256 };
 
-static void put(uint8_t *image, int word, uint32_t value)
+/* Word 0 of a mailbox, and the same places in the value of a frame event. */
+#define STANDARD(identifier) ((uint32_t)(identifier) << 18)
+#define EXTENDED(base, low) (0x80000000u | STANDARD(base) | (uint32_t)(low))
+#define MASKED 0x40000000u /* GAME, or LAME in mailbox 31 */
+#define RFH 0x20000000u
+
+/* Word 1 of a mailbox. */
+#define CONTROL(stamp, rtr, dlc) ((uint32_t)(stamp) << 16 | (uint32_t)(rtr) << 4 | (uint32_t)(dlc))
+
+static inline void put(uint8_t *image, int word, uint32_t value)
 {
     for (int i = 0; i < 4; i++)
         image[4 * word + i] = (uint8_t)(value >> 8 * i);
 }
 
-/* The fresh image, written by hand, so that the tests do not rest on frostsorrel_fresh. */
-static void put_fresh(uint8_t *image)
+static inline uint32_t word_of(const uint8_t *image, int word)
 {
-    memset(image, 0, FROSTSORREL_IMAGE_BYTES);
+    const uint8_t *at = image + 4 * word;
+
+    return at[0] | (uint32_t)at[1] << 8 | (uint32_t)at[2] << 16 | (uint32_t)at[3] << 24;
+}
+
+/* The fresh image, written by hand, so that the tests do not rest on frostsorrel_fresh. */
+static inline void put_fresh(uint8_t *image)
+{
+    memset(image, 0, BYTES);
     put(image, MD, 0x80000000);
     put(image, MODE, CONFIGURATION);
-    put(image, WAITING, 4);
-    put(image, SLOT, 31);
+    put(image, WAITING, NO_MODE);
+    put(image, SLOT, EMPTY_SLOT);
+}
+
+/* The first word in which two images differ, WORDS if they are equal. */
+static inline int first_difference(const uint8_t *a, const uint8_t *b)
+{
+    int word = 0;
+
+    while (word < WORDS && memcmp(a + 4 * word, b + 4 * word, 4) == 0)
+        word++;
+    return word;
+}
+
+/* A word's name, for messages. The next call overwrites it. */
+static inline const char *word_name(int word)
+{
+    static const char *const registers[] = {
+        "MC", "MD", "TRS", "TRR", "TA", "AA", "RMP", "RML", "LAM", "GAM", "RFP", "CDR", "MBTIF",
+        "MBRIF", "MBIM", "GIF", "GIM", "BCR1", "BCR2", "TSC", "TEC", "REC", "mode", "waiting mode",
+        "slot", "recovery count", "options", "TSO", "word 28", "word 29", "word 30", "word 31",
+    };
+    static char name[40];
+
+    if (word >= MC)
+        return registers[word - MC];
+    snprintf(name, sizeof name, "mailbox %d word %d", word / 4, word % 4);
+    return name;
 }
 
 #endif

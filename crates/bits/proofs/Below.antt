@@ -1,12 +1,12 @@
 -- What holds of every number below a bound.
-use Prim.Native.Nat.{ℕ, zero, suc, _<_, _≤_}
+use Prim.Native.Nat.{ℕ, zero, suc, _+_, _<_, _≤_}
 use mathlib.Core.Path.{_≡_, refl, sym, _∙_, ap}
 use mathlib.Core.Bool.{Bool, true, false, cond, _&&_, false≢true}
 use native.Mathlib.Decide.{ℕ-discrete}
 use native.Mathlib.Omega.{arith}
 use lib.Dec.{ltb}
 use borrow.Author.Tests.{ltb-true, ltb-false}
-use Rattle.bits.specs.Below.{allBelow, firstBelow}
+use Rattle.bits.specs.Below.{allBelow, countBelow, firstBelow}
 use Rattle.bits.proofs.Sets.{both, and-l, and-r}
 
 -- a number below n + 1 is n or below n
@@ -76,3 +76,27 @@ first-unique p n i j a b = at (ltb i j) refl (ltb j i) refl
     at true e u q = absurd (clash i j a b (ltb-true i j e))
     at false e true q = absurd (clash j i b a (ltb-true j i q))
     at false e false q = omega (arith, ltb-false i j e, ltb-false j i q)
+
+pub first-by : (p : ℕ → Bool) (n i : ℕ) → First p n i → firstBelow p n ≡ i
+first-by p n i f = first-unique p n (firstBelow p n) i (first-is p n) f
+
+-- ---- how many numbers below a bound
+
+-- one number more
+module _ (p : ℕ → Bool) (n : ℕ) where
+  pub count-in : p n ≡ true → countBelow p (suc n) ≡ countBelow p n + 1
+  unfolding countBelow
+  count-in e = rw e
+
+  pub count-out : p n ≡ false → countBelow p (suc n) ≡ countBelow p n
+  unfolding countBelow
+  count-out e = rw e (omega arith)
+
+pub count-most : (p : ℕ → Bool) (n : ℕ) → countBelow p n ≤ n
+unfolding countBelow
+count-most p zero = omega arith
+count-most p (suc n) = at (p n) refl (count-most p n)
+  where
+    at : (t : Bool) → p n ≡ t → countBelow p n ≤ n → countBelow p (suc n) ≤ suc n
+    at true e h = omega (arith, count-in p n e)
+    at false e h = omega (arith, count-out p n e)

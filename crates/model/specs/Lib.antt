@@ -1,3 +1,5 @@
 -- The step.
 pub mod Step
 pub mod Ready
+pub mod Touched
+pub mod Marked

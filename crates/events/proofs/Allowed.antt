@@ -1,0 +1,141 @@
+-- What is known of an event that gets none of refusals 2, 3 and 4, case by case.
+use Prim.Native.Nat.{ℕ, _*_, _/_, _%_, _^_, _<_, _≤_}
+use mathlib.Core.Path.{_≡_, refl, sym, subst}
+use mathlib.Core.Bool.{Bool, true, false, not, _&&_, _||_}
+use mathlib.Core.List.{List, [], _∷_}
+use mathlib.Core.Logic.{_⊎_, inl, inr, _≢_}
+use native.Mathlib.Omega.{arith}
+use lib.Dec.{eqb, leb}
+use borrow.Author.Tests.{leb-true, eqb-true, eqb-false, not-true, not-false}
+use Rattle.bits.specs.Bit.{bit}
+use Rattle.bits.proofs.Sets.{and-l, and-r}
+use Rattle.bits.proofs.Tests.{all}
+use Rattle.words.proofs.Bytes.{Bytes, word-lt}
+use Rattle.mailboxes.specs.Mailbox.{longest, wordLayout}
+use Rattle.mailboxes.specs.Filing.{dataBytes}
+use Rattle.events.specs.declared.Frame.{Frame}
+use Rattle.events.specs.declared.Event.{Event}
+use Rattle.events.specs.declared.Event.the-variants.{Refused, Register, Mailbox, Heard, Start, Outcome, ReceiveError, Recessive, Tick, Mode, Options, Reset}
+use Rattle.events.specs.Parts.{operation, target, word, value, frameOf, frameBytes, frameAllowed}
+use Rattle.events.specs.Decode.{knownAs, quietAs, registerAllowed, allowedAs, eventAs, unknown, disallowed, event, decoded}
+use Rattle.events.proofs.Laws.{operations, Each, each}
+use Rattle.events.proofs.Unused.{payload-lt, quiet-data}
+use Rattle.events.proofs.Refusals.{known-operation, operation-below, isRefused, accepted}
+
+-- ---- the facts
+
+-- register t, neither RML nor RFP, and its value
+pub record RegisterAllowed (t v : ℕ) : Type 0 where
+  pub known : t ≤ 19
+  pub notLost : t ≢ 7
+  pub notRemote : t ≢ 10
+  pub small : v < 2 ^ 32
+  pub valued : registerAllowed t v ≡ true
+
+-- word k of mailbox n
+pub record MailboxAllowed (n k v : ℕ) : Type 0 where
+  pub known : n < 32
+  pub wordKnown : k < 4
+  pub small : v < 2 ^ 32
+  pub laid : wordLayout k v ≡ true
+
+pub record FrameAllowed (f : Frame) : Type 0 where
+  pub short : f .dlc ≤ longest
+  pub identifier : f .id .0 < 2 ^ 29
+  pub standard : f .ide ≡ false → f .id .0 % 2 ^ 18 ≡ 0
+  pub small : f .bytes < 2 ^ 64
+  pub unused : f .bytes / 2 ^ (8 * dataBytes (f .rtr) (f .dlc)) ≡ 0
+
+abbrev pub Allowed : Event → Type 0
+Allowed (Refused n) = ⊥
+Allowed (Register t v) = RegisterAllowed t v
+Allowed (Mailbox n k v) = MailboxAllowed n k v
+Allowed (Heard f) = FrameAllowed f
+Allowed Start = Unit
+Allowed (Outcome k) = k ≤ 2
+Allowed (ReceiveError v) = (v ≡ 1) ⊎ (v ≡ 8)
+Allowed Recessive = Unit
+Allowed Tick = Unit
+Allowed (Mode v) = v ≤ 3
+Allowed (Options v) = v ≤ 3
+Allowed Reset = Unit
+
+-- ---- an operation at a time
+
+not-eqb : (m n : ℕ) → not (eqb m n) ≡ true → m ≢ n
+not-eqb m n h = eqb-false m n (not-true (eqb m n) h)
+
+either-eqb : (x m n : ℕ) → (eqb x m || eqb x n) ≡ true → (x ≡ m) ⊎ (x ≡ n)
+either-eqb x m n h = at (eqb x m) refl
+  where
+    at : (t : Bool) → eqb x m ≡ t → (x ≡ m) ⊎ (x ≡ n)
+    at true p = inl (eqb-true x m p)
+    at false p = inr (eqb-true x n (rw p at h))
+
+module _ (e : List ℕ) (b : Bytes e) where
+  abbrev Fits : ℕ → Type 0
+  Fits k = knownAs k e ≡ true → quietAs k e ≡ true → allowedAs k e ≡ true → Allowed (eventAs k e)
+
+  register : Fits 0
+  register k q a =
+      let t = target e in
+      let f = all (leb t 19 ∷ not (eqb t 7) ∷ not (eqb t 10) ∷ []) k in
+      record {
+        known = leb-true t 19 (f .0);
+        notLost = not-eqb t 7 (f .1 .0);
+        notRemote = not-eqb t 10 (f .1 .1 .0);
+        small = word-lt e b 4;
+        valued = a;
+      }
+
+  mailbox : Fits 1
+  mailbox k q a =
+      let n = leb-true (target e) 31 (and-l (leb (target e) 31) (leb (word e) 3) k) in
+      let w = leb-true (word e) 3 (and-r (leb (target e) 31) (leb (word e) 3) k) in
+      record { known = omega arith; wordKnown = omega arith; small = word-lt e b 4; laid = a }
+
+  heard : Fits 2
+  unfolding frameOf frameAllowed
+  heard k q a =
+      let v = value e in
+      let f = all (leb (target e) longest ∷ not (bit v 29) ∷ (bit v 31 || eqb (v % 2 ^ 18) 0) ∷ []) a in
+      record {
+        short = leb-true (target e) longest (f .0);
+        identifier = omega arith;
+        standard = λ p. let z = eqb-true (v % 2 ^ 18) 0 (rw p at (f .1 .1 .0)) in omega arith;
+        small = payload-lt e b;
+        unused = quiet-data e true false true (frameBytes e) q;
+      }
+
+  outcome : Fits 4
+  outcome k q a = leb-true (target e) 2 k
+
+  receive-error : Fits 5
+  receive-error k q a = either-eqb (value e) 1 8 a
+
+  mode : Fits 8
+  mode k q a = leb-true (value e) 3 a
+
+  options : Fits 9
+  options k q a = leb-true (value e) 3 a
+
+  allowed-as : Each Fits operations
+  allowed-as =
+      let writes : Each Fits 2 = ((tt, register), mailbox) in
+      let sends : Each Fits 5 = (((writes, heard), λ k q a. tt), outcome) in
+      let counts : Each Fits 8 = (((sends, receive-error), λ k q a. tt), λ k q a. tt) in
+      (((counts, mode), options), λ k q a. tt)
+
+pub allowed : (e : List ℕ) → Bytes e → unknown e ≡ false → disallowed e ≡ false → Allowed (event e)
+allowed e b u d =
+    let k = known-operation e u in
+    let q = quietAs (operation e) e in
+    let a = allowedAs (operation e) e in
+    let p : (q && a) ≡ true = not-false (q && a) d in
+    each (Fits e b) operations (allowed-as e b) (operation e) (operation-below e u) k (and-l q a p) (and-r q a p)
+
+-- the same of what decoding gives
+pub decoded-allowed : (a : Bool) (e : List ℕ) (v : Event) → Bytes e → decoded a e ≡ v → isRefused v ≡ false → Allowed v
+decoded-allowed a e v b h n =
+    let x = accepted a e v h n in
+    subst Allowed (sym (x .same)) (allowed e b (x .known) (x .fair))

@@ -1,0 +1,4 @@
+-- Theorems of the match, of the search and of where a frame goes.
+pub mod Matching
+pub mod Search
+pub mod Ways

@@ -1,0 +1,2 @@
+-- What a register write may touch.
+pub mod Touch

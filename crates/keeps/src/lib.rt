@@ -1,0 +1,1 @@
+// No code: theorems that every change of the register block keeps it good.

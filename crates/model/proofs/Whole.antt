@@ -1,0 +1,101 @@
+-- What a step knows of its image and of its event.
+use Prim.Native.Nat.{ℕ, _≤_}
+use mathlib.Core.Path.{_≡_, refl, _∙_}
+use mathlib.Core.Bool.{Bool, true, false}
+use mathlib.Core.List.{List}
+use mathlib.Core.Logic.{_⊎_, inl, inr}
+use native.Mathlib.Omega.{arith}
+use Rattle.words.proofs.Bytes.{Bytes}
+use Rattle.registers.specs.declared.Block.{Block}
+use Rattle.registers.specs.Block.{blockOf}
+use Rattle.events.specs.declared.Event.{Event}
+use Rattle.events.specs.declared.Event.the-variants.{Refused, Register, Mailbox, Heard, Start, Outcome, ReceiveError, Recessive, Tick, Mode, Options, Reset}
+use Rattle.events.specs.Decode.{event, decoded}
+use Rattle.events.proofs.Refusals.{isRefused, refused-number, accepted}
+use Rattle.events.proofs.Allowed.{decoded-allowed}
+use Rattle.good.specs.Good.{goodImage}
+use Rattle.good.proofs.Image.{image-facts}
+use Rattle.refusals.specs.Refusal.{remaining, Fitting}
+use Rattle.model.specs.Ready.{Loaded, Sized}
+
+pub loaded : (s : List ℕ) (b : Block) → Bytes s → goodImage s ≡ true → b ≡ blockOf s → Loaded s b
+loaded s b h g l =
+    let f = image-facts s h g in
+    let r = f .block .core .ranges in
+    rw l
+    (record {
+      size = f .size;
+      block = refl;
+      slot = omega (arith, r .slot);
+      tsc = r .tsc;
+      tec = r .tec;
+      rec = r .rec;
+      recovery = r .recovery;
+    })
+
+module _ (a : Bool) (e : List ℕ) (b : Bytes e) where
+  pub sized : Sized (decoded a e)
+  sized = at (decoded a e) refl
+    where
+      small : (v : ℕ) → ((v ≡ 1) ⊎ (v ≡ 8)) → v ≤ 8
+      small v (inl h) = omega arith
+      small v (inr h) = omega arith
+
+      at : (v : Event) → decoded a e ≡ v → Sized v
+      at (Refused r) h = tt
+      at (Register t v) h = tt
+      at (Mailbox n k v) h = let x = decoded-allowed a e (Mailbox n k v) b h refl in (x .known, x .wordKnown)
+      at (Heard f) h = let x = decoded-allowed a e (Heard f) b h refl in record { id = x .identifier; dlc = omega (arith, x .short) }
+      at Start h = tt
+      at (Outcome k) h = tt
+      at (ReceiveError v) h = small v (decoded-allowed a e (ReceiveError v) b h refl)
+      at Recessive h = tt
+      at Tick h = tt
+      at (Mode m) h = tt
+      at (Options v) h = tt
+      at Reset h = tt
+
+  pub fitting : Fitting (decoded a e)
+  fitting = at (decoded a e) sized
+    where
+      at : (v : Event) → Sized v → Fitting v
+      at (Refused r) h = tt
+      at (Register t v) h = tt
+      at (Mailbox n k v) h = h .0
+      at (Heard f) h = tt
+      at Start h = tt
+      at (Outcome k) h = tt
+      at (ReceiveError v) h = tt
+      at Recessive h = tt
+      at Tick h = tt
+      at (Mode m) h = tt
+      at (Options v) h = tt
+      at Reset h = tt
+
+-- a decoded event that gets no refusal is a real one, and that of its bytes
+module _ (s : List ℕ) (a : Bool) (e : List ℕ) where
+  pub unrefused : remaining s (decoded a e) ≡ 0 → isRefused (decoded a e) ≡ false
+  unfolding remaining
+  unrefused z = at (decoded a e) refl z
+    where
+      none : (r : ℕ) → r ≡ 0 → (r ≡ 2) ⊎ ((r ≡ 3) ⊎ (r ≡ 4)) → ⊥
+      none r z (inl h) = omega arith
+      none r z (inr (inl h)) = omega arith
+      none r z (inr (inr h)) = omega arith
+
+      at : (v : Event) → decoded a e ≡ v → remaining s v ≡ 0 → isRefused v ≡ false
+      at (Refused r) h z = absurd (none r z (refused-number a e r h))
+      at (Register t v) h z = refl
+      at (Mailbox n k v) h z = refl
+      at (Heard f) h z = refl
+      at Start h z = refl
+      at (Outcome k) h z = refl
+      at (ReceiveError v) h z = refl
+      at Recessive h z = refl
+      at Tick h z = refl
+      at (Mode m) h z = refl
+      at (Options v) h z = refl
+      at Reset h z = refl
+
+  pub real : remaining s (decoded a e) ≡ 0 → decoded a e ≡ event e
+  real z = accepted a e (decoded a e) refl (unrefused z) .same

@@ -1,0 +1,2 @@
+-- The order of the refusals.
+pub mod Order

@@ -1,0 +1,2 @@
+-- Theorems of the choice.
+pub mod Choice

@@ -1,0 +1,371 @@
+#include "generate.h"
+
+#include "events.h"
+#include "image.h"
+
+#define BIT_31 0x80000000u
+#define COUNT(table) ((uint32_t)(sizeof(table) / sizeof((table)[0])))
+#define ONE_OF(table) ((table)[draw(COUNT(table))])
+
+/* ---- numbers */
+
+static uint64_t state = 1;
+static int bad_weather; /* hardly anything that is sent gets through: the way to bus off */
+
+/* xorshift64*: Vigna, "An experimental exploration of Marsaglia's xorshift generators". */
+static uint32_t any_word(void)
+{
+    state ^= state >> 12;
+    state ^= state << 25;
+    state ^= state >> 27;
+    return (uint32_t)(state * UINT64_C(2685821657736338717) >> 32);
+}
+
+void seed_generator(uint64_t seed)
+{
+    state = seed * UINT64_C(0x9E3779B97F4A7C15) | 1;
+    bad_weather = 0;
+    for (int i = 0; i < 8; i++)
+        any_word();
+}
+
+uint32_t draw(uint32_t below)
+{
+    return (uint32_t)((uint64_t)any_word() * below >> 32);
+}
+
+static int one_in(uint32_t n)
+{
+    return draw(n) == 0;
+}
+
+void draw_bytes(uint8_t *bytes, size_t len)
+{
+    for (size_t i = 0; i < len; i++)
+        bytes[i] = (uint8_t)draw(256);
+}
+
+/* Flags: none, one, few, half, most or all of them. */
+static uint32_t any_flags(void)
+{
+    switch (draw(7)) {
+    case 0: return 0;
+    case 1: return 1u << draw(32);
+    case 2: return any_word() & any_word() & any_word();
+    case 3: return any_word() | any_word();
+    case 4: return 0xFFFFFFFF;
+    default: return any_word();
+    }
+}
+
+/* One to three flags. */
+static uint32_t few_flags(void)
+{
+    return 1u << draw(32) | 1u << draw(32) | 1u << draw(32);
+}
+
+/* A value at or past the end of what is allowed somewhere. */
+static uint32_t edge_value(void)
+{
+    static const uint32_t edges[] = {0, 1, 2, 3, 4, 5, 8, 9, 31, 32, 127, 128, 255, 256, 257, 1023, 1024,
+                                     65535, 65536, 0x7FFFFFFF, BIT_31, 0xFFFFFFFF};
+
+    return one_in(3) ? 1u << draw(32) : ONE_OF(edges);
+}
+
+/* ---- what mailboxes and frames hold */
+
+/* From a handful, from a larger pool, or any. */
+static uint32_t any_identifier(void)
+{
+    static const uint32_t few[] = {STANDARD(0x123), EXTENDED(0x123, 0), EXTENDED(0x7FF, 0x3FFFF)};
+    static const uint32_t bases[] = {0x123, 0x122, 0x7FF, 0x000, 0x523};
+    static const uint32_t lows[] = {0, 1, 0x20000, 0x3FFFF};
+    uint32_t base = one_in(12) ? draw(0x800) : ONE_OF(bases);
+
+    if (one_in(2))
+        return ONE_OF(few);
+    if (one_in(2))
+        return STANDARD(base);
+    return EXTENDED(base, one_in(12) ? draw(0x40000) : ONE_OF(lows));
+}
+
+static uint32_t any_mask(void)
+{
+    static const uint32_t masks[] = {0, BIT_31, 0x1FFFFFFF, 0x9FFFFFFF, 0x0003FFFF, 0x8003FFFF,
+                                     0x00040000, 0x9FFC0000};
+
+    return one_in(6) ? any_word() & 0x9FFFFFFF : ONE_OF(masks);
+}
+
+static uint32_t any_mailbox_word(int k)
+{
+    switch (k) {
+    case 0: return any_identifier() | (one_in(3) ? MASKED : 0) | (one_in(2) ? RFH : 0);
+    case 1: return CONTROL(draw(65536), draw(2), draw(9));
+    default: return any_word();
+    }
+}
+
+/* ---- events */
+
+static struct event any_frame(void)
+{
+    uint64_t data = (uint64_t)any_word() << 32 | any_word();
+    int dlc = (int)draw(9);
+
+    if (one_in(3))
+        return remote_frame(any_identifier(), dlc);
+    return data_frame(any_identifier(), dlc, dlc < 8 ? data & ((UINT64_C(1) << 8 * dlc) - 1) : data);
+}
+
+/* Most of them let the model leave configuration. */
+static uint32_t any_timing(void)
+{
+    static const uint32_t edges[] = {0x000, 0x005, 0x020, 0x018, 0x085, 0x121, 0x221, 0x321, 0x3FF};
+
+    if (one_in(8))
+        return draw(1024);
+    return one_in(4) ? ONE_OF(edges) : 0x25;
+}
+
+static struct event any_register_write(void)
+{
+    int word = MC + (int)draw(20);
+
+    switch (word) {
+    case RML: case RFP: return write_register(one_in(4) ? word : TRS, any_flags());
+    case MC: return write_register(MC, any_flags() | any_flags());
+    case LAM: case GAM: return write_register(word, any_mask());
+    case CDR: return write_register(CDR, one_in(2) ? 0 : any_flags() & ~BIT_31);
+    case GIF: case GIM: return write_register(word, draw(256));
+    case BCR1: return write_register(BCR1, draw(1024));
+    case BCR2: return write_register(BCR2, any_timing());
+    case TSC: return write_register(TSC, 0);
+    default: return write_register(word, any_flags());
+    }
+}
+
+/* One in four goes to the slot's mailbox. */
+static struct event any_mailbox_write(const uint8_t *image, int k)
+{
+    uint32_t n = one_in(4) ? word_of(image, SLOT) % 32 : draw(32);
+
+    return write_mailbox((int)n, k, any_mailbox_word(k));
+}
+
+/* Setting up, while no mailbox is enabled: what the rest of a run will meet. */
+static struct event any_setup(const uint8_t *image)
+{
+    switch (draw(12)) {
+    case 0: return write_register(MC, any_flags() | any_flags());
+    case 1: case 2: return write_register(MD, any_flags());
+    case 3: return write_register(one_in(2) ? GAM : LAM, any_mask());
+    default: return any_mailbox_write(image, one_in(3) ? (int)draw(4) : 0);
+    }
+}
+
+static struct event any_operation(const uint8_t *image)
+{
+    uint32_t kind = draw(200);
+
+    if (kind < 60) return any_frame();
+    if (kind < 110) return any_register_write();
+    if (kind < 125) return write_register(TRS, any_flags());
+    if (kind < 160) return start();
+    if (kind < 163) return outcome((int)draw(3));
+    if (kind < 173) return any_mailbox_write(image, (int)draw(4));
+    if (kind < 180) return receive_error(one_in(2) ? 1 : 8);
+    if (kind < 185) return recessive();
+    if (kind < 190) return tick();
+    if (kind < 196) return mode(draw(4));
+    if (kind < 199) return options(draw(4));
+    return one_in(4) ? reset() : tick();
+}
+
+static struct event any_outcome(void)
+{
+    if (bad_weather && !one_in(8))
+        return outcome(ERROR);
+    return outcome(one_in(3) ? SENT : (int)draw(3));
+}
+
+/* Each state gets what moves it on, so that a run does not rest in one of them. */
+static struct event next_event(const uint8_t *image)
+{
+    uint32_t present = word_of(image, MODE);
+
+    if (one_in(300))
+        bad_weather = one_in(4);
+    if (present == CONFIGURATION && word_of(image, MC) == 0 && !one_in(40))
+        return any_setup(image);
+    if (present == CONFIGURATION && one_in(3))
+        return one_in(2) ? write_register(BCR2, any_timing()) : mode(NORMAL_MODE);
+    if (present == SUSPEND && one_in(4))
+        return mode(NORMAL_MODE);
+    if (present == SLEEP && one_in(3))
+        return one_in(2) ? mode(NORMAL_MODE) : any_frame();
+    if (word_of(image, SLOT) != EMPTY_SLOT && (bad_weather || one_in(3)))
+        return any_outcome();
+    if (word_of(image, TEC) == BUS_OFF_TEC && !one_in(8))
+        return recessive();
+    if (bad_weather && one_in(2))
+        return start();
+    return any_operation(image);
+}
+
+static struct event event_of_any_operation(const uint8_t *image)
+{
+    switch (draw(16)) {
+    case 0: return write_register(MC + (int)draw(21), edge_value());
+    case 1: return any_register_write();
+    case 2: return any_mailbox_write(image, (int)draw(4));
+    case 3: case 4: case 5: return any_frame();
+    case 6: case 7: return start();
+    case 8: case 9: return outcome((int)draw(4));
+    case 10: return receive_error(one_in(2) ? 1 : 8);
+    case 11: return recessive();
+    case 12: return tick();
+    case 13: return mode(draw(5));
+    case 14: return options(draw(5));
+    default: return reset();
+    }
+}
+
+/* Answers the event's length. */
+static size_t damage(uint8_t *event)
+{
+    switch (draw(8)) {
+    case 0: event[draw(EVENT_BYTES)] ^= (uint8_t)(1u << draw(8)); break;
+    case 1: event[draw(EVENT_BYTES)] = (uint8_t)draw(256); break;
+    case 2: event[1 + draw(3)] = (uint8_t)draw(36); break;
+    case 3: event[0] = (uint8_t)draw(14); break;
+    case 4: case 5: put(event, 1, edge_value()); break;
+    case 6: put(event, 1, word_of(event, 1) ^ 1u << draw(32)); break;
+    default:
+        draw_bytes(event + EVENT_BYTES, LONGEST_EVENT - EVENT_BYTES);
+        return draw(LONGEST_EVENT + 1);
+    }
+    return EVENT_BYTES;
+}
+
+static size_t damaged_at_times(uint8_t *event, struct event e)
+{
+    memcpy(event, e.bytes, EVENT_BYTES);
+    return one_in(10) ? damage(event) : EVENT_BYTES;
+}
+
+size_t likely_event(uint8_t *event, const uint8_t *image)
+{
+    return damaged_at_times(event, next_event(image));
+}
+
+size_t varied_event(uint8_t *event, const uint8_t *image)
+{
+    return damaged_at_times(event, event_of_any_operation(image));
+}
+
+/* ---- images */
+
+static void put_flags(uint8_t *image)
+{
+    uint32_t md = any_flags() | BIT_31, rmp = any_flags();
+
+    put(image, MC, any_flags());
+    put(image, MD, md);
+    put(image, TRS, (one_in(2) ? few_flags() : any_flags()) & ~md);
+    put(image, TA, any_flags() & ~BIT_31);
+    put(image, AA, any_flags() & ~BIT_31);
+    put(image, RMP, rmp);
+    put(image, RML, rmp & any_flags());
+    put(image, RFP, rmp & any_flags());
+    put(image, CDR, any_flags() & any_flags() & ~BIT_31);
+    put(image, MBTIF, any_flags() & ~BIT_31);
+    put(image, MBRIF, any_flags());
+    put(image, MBIM, any_flags());
+}
+
+static void put_numbers(uint8_t *image)
+{
+    static const uint32_t counts[] = {0, 0, 1, 88, 89, 95, 96, 97, 119, 120, 126, 127, 128, 200, 247,
+                                      248, 254, 255};
+
+    put(image, LAM, any_mask());
+    put(image, GAM, any_mask());
+    put(image, GIF, draw(256));
+    put(image, GIM, draw(256));
+    put(image, BCR1, draw(1024));
+    put(image, BCR2, any_timing());
+    put(image, TSC, one_in(4) ? 65535 : draw(65536));
+    put(image, TEC, ONE_OF(counts));
+    put(image, REC, ONE_OF(counts));
+    put(image, OPTIONS, draw(4));
+    put(image, TSO, draw(2));
+}
+
+static void put_in_slot(uint8_t *image, uint32_t n)
+{
+    uint32_t bit = 1u << n;
+
+    put(image, SLOT, n);
+    put(image, MC, word_of(image, MC) | bit);
+    put(image, MD, word_of(image, MD) & ~bit);
+    put(image, TRS, word_of(image, TRS) | bit);
+    put(image, TRR, one_in(2) ? bit : 0);
+}
+
+static void put_asleep(uint8_t *image)
+{
+    static const int zero[] = {TEC, REC, TRS};
+
+    put(image, MODE, SLEEP);
+    for (uint32_t i = 0; i < COUNT(zero); i++)
+        put(image, zero[i], 0);
+}
+
+static void put_bus_off(uint8_t *image)
+{
+    put(image, TEC, BUS_OFF_TEC);
+    put(image, RECOVERY, one_in(2) ? 127 : draw(128));
+}
+
+void good_image(uint8_t *image)
+{
+    put_fresh(image);
+    for (int word = 0; word < MC; word++)
+        put(image, word, any_mailbox_word(word % 4));
+    put_flags(image);
+    put_numbers(image);
+    put(image, MODE, NORMAL_MODE);
+    switch (draw(8)) {
+    case 0: put(image, MODE, CONFIGURATION); return;
+    case 1: put(image, MODE, SUSPEND); return;
+    case 2: put_asleep(image); return;
+    case 3: put_bus_off(image); break;
+    case 4: case 5: put_in_slot(image, draw(31)); break;
+    default: return;
+    }
+    put(image, WAITING, 1 + draw(4)); /* with bus off or a filled slot, a mode may wait */
+}
+
+static void flip(uint8_t *image, int word, uint32_t bits)
+{
+    put(image, word, word_of(image, word) ^ bits);
+}
+
+void spoil(uint8_t *image)
+{
+    static const int below_31[] = {MD, TRS, TRR, TA, AA, CDR, MBTIF};
+    static const int paired[] = {TRS, TRR, RML, RFP, RMP, MC, MD};
+
+    switch (draw(8)) {
+    case 0: flip(image, ONE_OF(below_31), BIT_31); break;
+    case 1: flip(image, ONE_OF(paired), 1u << draw(32)); break;
+    case 2: flip(image, one_in(2) ? LAM : GAM, 1u << (29 + draw(2))); break;
+    case 3: put(image, GIF + (int)draw(TSO - GIF + 5), edge_value()); break; /* words 15 to 31 */
+    case 4: put(image, MODE + (int)draw(4), draw(6)); break;
+    case 5: put(image, TEC, 256 - draw(2)); break;
+    case 6: flip(image, MAILBOX((int)draw(32), (int)draw(2)), 1u << draw(32)); break;
+    default: image[draw(BYTES)] ^= (uint8_t)(1u << draw(8));
+    }
+}

@@ -1,0 +1,33 @@
+/*
+ * Images and events drawn at random, the same for the same seed: mostly valid ones, with identifiers
+ * and masks from small pools so that frames find mailboxes, and damaged ones among them.
+ */
+#ifndef GENERATE_H
+#define GENERATE_H
+
+#include <stddef.h>
+#include <stdint.h>
+
+#define LONGEST_EVENT 24
+
+void seed_generator(uint64_t seed);
+
+/* A number below this one, which is not 0. */
+uint32_t draw(uint32_t below);
+
+/* Any bytes. */
+void draw_bytes(uint8_t *bytes, size_t len);
+
+/* An event for a run, which the image most likely accepts; one in ten is damaged. Answers its length. */
+size_t likely_event(uint8_t *event, const uint8_t *image);
+
+/* An event of any operation, whatever the state; one in ten is damaged. Answers its length. */
+size_t varied_event(uint8_t *event, const uint8_t *image);
+
+/* A good image, built word by word. */
+void good_image(uint8_t *image);
+
+/* Breaks one clause of the rule for good images, most of the time. */
+void spoil(uint8_t *image);
+
+#endif

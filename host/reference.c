@@ -1,0 +1,761 @@
+/* Document 01 in plain C. "D12" and the like are entries of docs/DECISIONS.md. */
+#include "reference.h"
+
+#include <stdbool.h>
+#include <string.h>
+
+#if __BYTE_ORDER__ != __ORDER_LITTLE_ENDIAN__
+#error "words are taken from the image as they stand: this wants a little-endian machine"
+#endif
+
+/* ---- the image: words counted from its first byte, the register words behind 32 mailboxes of 4 */
+
+#define IMAGE_BYTES 640
+#define REGISTER_BYTES 512 /* where the register words begin */
+
+enum {
+    MC = 128, MD, TRS, TRR, TA, AA, RMP, RML, LAM, GAM, RFP, CDR, MBTIF, MBRIF, MBIM, GIF, GIM,
+    BCR1, BCR2, TSC, TEC, REC, MODE, WAITING, SLOT, RECOVERY, OPTIONS, TSO, SPARE
+};
+enum { NORMAL, CONFIGURATION, SLEEP, SUSPEND, NO_MODE };
+enum { EMPTY = 31, BUS_OFF = 256, NO_MAILBOX = 32 };
+
+/* Word 0 of a mailbox; a frame's value has IDE and the identifier in the same places. */
+#define IDE 0x80000000u
+#define MASKED 0x40000000u /* GAME, or LAME in mailbox 31 */
+#define RFH 0x20000000u
+#define IDENTIFIER 0x1FFFFFFFu
+#define BASE 0x1FFC0000u /* the 11 bits of a standard identifier */
+#define LOW 0x0003FFFFu  /* the 18 bits that only an extended one has */
+
+#define RTR 0x10u /* in word 1 of a mailbox */
+#define MAILBOX_31 0x80000000u
+
+enum { MTOS = 1, WUBA = 2 };
+enum { OVERFLOWED = 0x08, ABORTED = 0x10, LOST = 0x20, WOKEN = 0x40, REMOTE_CAME = 0x80 }; /* GIF */
+
+static inline uint32_t get(const uint8_t *image, unsigned word)
+{
+    uint32_t value;
+
+    memcpy(&value, image + 4 * word, sizeof value);
+    return value;
+}
+
+static inline void set(uint8_t *image, unsigned word, uint32_t value)
+{
+    memcpy(image + 4 * word, &value, sizeof value);
+}
+
+static inline void set_bits(uint8_t *image, unsigned word, uint32_t bits)
+{
+    set(image, word, get(image, word) | bits);
+}
+
+static inline void clear_bits(uint8_t *image, unsigned word, uint32_t bits)
+{
+    set(image, word, get(image, word) & ~bits);
+}
+
+static inline uint64_t get_double(const uint8_t *bytes)
+{
+    uint64_t value;
+
+    memcpy(&value, bytes, sizeof value);
+    return value;
+}
+
+/* ---- answers: refusal + 256 * mailbox + 65536 * count */
+
+enum { BAD_IMAGE = 1, UNKNOWN, ASLEEP, NOT_ALLOWED, BUSY, LOCKED, NOTHING_SENT };
+
+#define ACCEPTED ((uint64_t)NO_MAILBOX << 8)
+
+static inline uint64_t refused(unsigned refusal)
+{
+    return ACCEPTED + refusal;
+}
+
+static inline uint64_t found(uint32_t mailbox, uint32_t count)
+{
+    return (uint64_t)count << 16 | mailbox << 8;
+}
+
+/* ---- the state, as several rules ask for it */
+
+/* The bit of the mailbox in the slot; 31 there means nobody (D4), and has no bit. */
+static inline uint32_t slot_bit(const uint8_t *image)
+{
+    return 1u << (get(image, SLOT) & 31) & ~MAILBOX_31;
+}
+
+static inline bool slot_filled(const uint8_t *image)
+{
+    return get(image, SLOT) != EMPTY;
+}
+
+static inline bool asleep(const uint8_t *image)
+{
+    return get(image, MODE) == SLEEP;
+}
+
+/* Frames and receive errors are heard, and sending may start. */
+static inline bool on_bus(const uint8_t *image)
+{
+    return get(image, MODE) == NORMAL && get(image, TEC) != BUS_OFF;
+}
+
+/* Bus off, passive, warning: bits 2, 1, 0 of GSR, and of GIF when they become true. */
+static inline uint32_t conditions(const uint8_t *image)
+{
+    uint32_t tec = get(image, TEC), rec = get(image, REC), worse = tec > rec ? tec : rec;
+
+    return (uint32_t)(tec == BUS_OFF) << 2 | (uint32_t)(worse > 127) << 1 | (worse > 96);
+}
+
+/* ---- good image */
+
+/* Bits of a word 0 that its layout forbids: a standard identifier has no low 18 bits. */
+static inline uint32_t stray_identifier(uint32_t word)
+{
+    return word & LOW & ((word >> 31) - 1);
+}
+
+/* The same for a word 1: bits 15 to 5, and a bit 4 that appears when the DLC is above 8. */
+static inline uint32_t stray_control(uint32_t word)
+{
+    return (word & 0xFFE0) | (((word & 0xF) + 7) & 0x10);
+}
+
+static bool good_mailboxes(const uint8_t *image)
+{
+    uint32_t stray = 0;
+
+    for (unsigned n = 0; n < 32; n++)
+        stray |= stray_identifier(get(image, 4 * n)) | stray_control(get(image, 4 * n + 1));
+    return stray == 0;
+}
+
+/* Bits that no good image has, whatever the other words say. */
+static inline uint32_t stray_bits(const uint8_t *image)
+{
+    uint32_t never_31 = get(image, TRS) | get(image, TRR) | get(image, TA) | get(image, AA) |
+                        get(image, CDR) | get(image, MBTIF) | ~get(image, MD);
+
+    return (never_31 & MAILBOX_31) | ((get(image, LAM) | get(image, GAM)) & (MASKED | RFH)) |
+           ((get(image, GIF) | get(image, GIM) | get(image, REC)) & ~0xFFu) |
+           ((get(image, BCR1) | get(image, BCR2)) & ~0x3FFu) | (get(image, TSC) & ~0xFFFFu) |
+           ((get(image, MODE) | get(image, OPTIONS)) & ~3u) | (get(image, SLOT) & ~31u) |
+           (get(image, RECOVERY) & ~127u) | (get(image, TSO) & ~1u) | get(image, SPARE) |
+           get(image, SPARE + 1) | get(image, SPARE + 2) | get(image, SPARE + 3);
+}
+
+/* Bits that stand where another word does not let them. */
+static inline uint32_t misplaced_bits(const uint8_t *image)
+{
+    uint32_t trs = get(image, TRS), slot = slot_bit(image);
+
+    return (trs & get(image, MD)) | (get(image, TRR) & ~(trs & slot)) |
+           ((get(image, RML) | get(image, RFP)) & ~get(image, RMP)) | (slot & ~(trs & get(image, MC)));
+}
+
+/* The clauses about mode, slot and counters. */
+static inline bool good_state(const uint8_t *image)
+{
+    uint32_t mode = get(image, MODE), tec = get(image, TEC), waiting = get(image, WAITING);
+    uint32_t quiet = tec | get(image, REC) | get(image, TRS) | get(image, TRR);
+    bool filled = slot_filled(image), off = tec == BUS_OFF;
+
+    return (tec <= BUS_OFF) & !(filled & off) & ((mode == NORMAL) | !(filled | off)) &
+           ((get(image, RECOVERY) == 0) | off) & (waiting - 1 < NO_MODE) &
+           ((waiting == NO_MODE) | filled | off) & ((mode != SLEEP) | (quiet == 0));
+}
+
+static bool good(const uint8_t *image, size_t image_len)
+{
+    return image_len == IMAGE_BYTES && (stray_bits(image) | misplaced_bits(image)) == 0 &&
+           good_state(image) && good_mailboxes(image);
+}
+
+/* ---- the event: 8 bytes of operation, target, word, 0 and value, taken as one number; 8 of data */
+
+struct event {
+    uint64_t head, data;
+};
+
+#define TARGET UINT64_C(0x000000000000FF00)
+#define WORD UINT64_C(0x0000000000FF0000)
+#define BYTE_3 UINT64_C(0x00000000FF000000)
+#define VALUE UINT64_C(0xFFFFFFFF00000000)
+
+static inline unsigned operation(struct event e)
+{
+    return e.head & 0xFF;
+}
+
+static inline uint32_t target(struct event e)
+{
+    return e.head >> 8 & 0xFF;
+}
+
+static inline uint32_t word(struct event e)
+{
+    return e.head >> 16 & 0xFF;
+}
+
+static inline uint32_t value(struct event e)
+{
+    return (uint32_t)(e.head >> 32);
+}
+
+/* Is anything in these unused fields, in byte 3 (D8), or in the data bytes? */
+static inline bool dirty(struct event e, uint64_t fields)
+{
+    return ((e.head & (fields | BYTE_3)) | e.data) != 0;
+}
+
+/* ---- modes */
+
+static void enter(uint8_t *image, uint32_t mode)
+{
+    set(image, MODE, mode);
+    if (mode == SLEEP) {
+        set(image, TEC, 0);
+        set(image, REC, 0);
+        set(image, TRS, 0);
+        set(image, TRR, 0);
+    }
+}
+
+static void wake(uint8_t *image)
+{
+    set(image, MODE, NORMAL);
+    set_bits(image, GIF, WOKEN);
+}
+
+/* The end of a step that emptied the slot or ended bus off. */
+static void take_waiting_mode(uint8_t *image)
+{
+    uint32_t waiting = get(image, WAITING);
+
+    if (waiting == NO_MODE || get(image, TEC) == BUS_OFF)
+        return;
+    set(image, WAITING, NO_MODE);
+    enter(image, waiting);
+}
+
+static bool timing_forbids_leaving(uint32_t bcr2)
+{
+    uint32_t sjw = bcr2 >> 8 & 3, tseg2 = bcr2 >> 4 & 7, tseg1 = bcr2 & 15;
+
+    return tseg1 == 0 || tseg2 == 0 || sjw > tseg2;
+}
+
+/* Only normal mode can have a filled slot or bus off, so only it makes a request wait. */
+static void leave_normal(uint8_t *image, uint32_t mode)
+{
+    if (slot_filled(image) || get(image, TEC) == BUS_OFF)
+        set(image, WAITING, mode);
+    else
+        enter(image, mode);
+}
+
+static uint64_t request_mode(uint8_t *image, struct event e)
+{
+    uint32_t wanted = value(e), mode = get(image, MODE);
+
+    if (dirty(e, TARGET | WORD) || wanted > SUSPEND)
+        return refused(NOT_ALLOWED);
+    if (wanted == mode) {
+        set(image, WAITING, NO_MODE);
+    } else if (mode == NORMAL) {
+        leave_normal(image, wanted);
+    } else if (wanted != NORMAL) {
+        return refused(LOCKED);
+    } else if (mode == SLEEP) {
+        wake(image);
+    } else {
+        if (mode == CONFIGURATION && timing_forbids_leaving(get(image, BCR2)))
+            return refused(LOCKED);
+        set(image, MODE, NORMAL);
+    }
+    return ACCEPTED;
+}
+
+/* ---- writing */
+
+/* Bits that a register may not be written with; RML and RFP cannot be written at all. */
+static const uint32_t forbidden[20] = {
+    [LAM - MC] = MASKED | RFH, [GAM - MC] = MASKED | RFH, [CDR - MC] = MAILBOX_31,
+    [GIF - MC] = ~0xFFu,       [GIM - MC] = ~0xFFu,       [BCR1 - MC] = ~0x3FFu,
+    [BCR2 - MC] = ~0x3FFu,     [TSC - MC] = ~0u,
+};
+
+/* TRR: a request in the slot is marked, any other ends at once. */
+static void cancel(uint8_t *image, uint32_t bits)
+{
+    uint32_t slot = slot_bit(image), hit = bits & get(image, TRS), ended = hit & ~slot;
+
+    set_bits(image, TRR, hit & slot);
+    if (ended) {
+        clear_bits(image, TRS, ended);
+        set_bits(image, AA, ended);
+        set_bits(image, GIF, ABORTED);
+    }
+}
+
+static uint64_t write_mc(uint8_t *image, uint32_t v)
+{
+    if (get(image, MC) & ~v & get(image, TRS))
+        return refused(BUSY);
+    set(image, MC, v);
+    return ACCEPTED;
+}
+
+static uint64_t write_md(uint8_t *image, uint32_t v)
+{
+    uint32_t next = v | MAILBOX_31, changed = next ^ get(image, MD);
+
+    if (changed & get(image, TRS))
+        return refused(BUSY);
+    if (changed & get(image, MC))
+        return refused(LOCKED);
+    set(image, MD, next);
+    return ACCEPTED;
+}
+
+static uint64_t write_timing(uint8_t *image, unsigned bcr, uint32_t v)
+{
+    if (get(image, MODE) != CONFIGURATION)
+        return refused(LOCKED);
+    set(image, bcr, v);
+    return ACCEPTED;
+}
+
+static uint64_t write_register(uint8_t *image, struct event e)
+{
+    unsigned r = MC + target(e);
+    uint32_t v = value(e);
+
+    if (r > TSC || r == RML || r == RFP)
+        return refused(UNKNOWN);
+    if (asleep(image))
+        return refused(ASLEEP);
+    if (dirty(e, WORD) || (v & forbidden[r - MC]))
+        return refused(NOT_ALLOWED);
+    switch (r) {
+    case MC:
+        return write_mc(image, v);
+    case MD:
+        return write_md(image, v);
+    case BCR1: case BCR2:
+        return write_timing(image, r, v);
+    case TRS:
+        set_bits(image, TRS, v & ~get(image, MD));
+        break;
+    case TRR:
+        cancel(image, v);
+        break;
+    case RMP:
+        clear_bits(image, RMP, v);
+        clear_bits(image, RML, v);
+        clear_bits(image, RFP, v);
+        break;
+    case GIF:
+        clear_bits(image, GIF, v);
+        if (v & OVERFLOWED)
+            set(image, TSO, 0);
+        break;
+    case TA: case AA: case MBTIF: case MBRIF:
+        clear_bits(image, r, v);
+        break;
+    default: /* LAM, GAM, CDR, MBIM, GIM, TSC */
+        set(image, r, v);
+    }
+    return ACCEPTED;
+}
+
+/* Of an enabled mailbox; word 1 is never locked. */
+static bool locked_word(const uint8_t *image, unsigned n, unsigned k)
+{
+    uint32_t bit = 1u << n;
+
+    if (k < 2)
+        return k == 0;
+    if (get(image, MD) & bit)
+        return true;
+    return get(image, 4 * n) & RFH && !(get(image, CDR) & bit);
+}
+
+static uint64_t write_mailbox(uint8_t *image, struct event e)
+{
+    unsigned n = target(e), k = word(e);
+    uint32_t v = value(e), bit = 1u << (n & 31);
+
+    if (n > 31 || k > 3)
+        return refused(UNKNOWN);
+    if (asleep(image))
+        return refused(ASLEEP);
+    if (dirty(e, 0) || (k == 0 && stray_identifier(v)) || (k == 1 && stray_control(v)))
+        return refused(NOT_ALLOWED);
+    if (bit & (slot_bit(image) | (get(image, TRS) & ~get(image, CDR))))
+        return refused(BUSY);
+    if (bit & get(image, MC) && locked_word(image, n, k))
+        return refused(LOCKED);
+    set(image, 4 * n + k, v);
+    return ACCEPTED;
+}
+
+/* ---- receiving */
+
+#define FRAME_RTR 0x40000000u /* in a frame's value */
+#define FRAME_SPARE 0x20000000u
+
+/* The places of the data bytes below this number. */
+static inline uint64_t bytes_below(uint32_t count)
+{
+    return count < 8 ? (UINT64_C(1) << 8 * count) - 1 : ~UINT64_C(0);
+}
+
+/* The data bytes that a frame brings; a remote frame brings none. */
+static inline uint64_t carried(struct event e)
+{
+    return value(e) & FRAME_RTR ? 0 : bytes_below(target(e));
+}
+
+static bool allowed_frame(struct event e)
+{
+    return (e.head & (WORD | BYTE_3)) == 0 && target(e) <= 8 && !(value(e) & FRAME_SPARE) &&
+           stray_identifier(value(e)) == 0 && (e.data & ~carried(e)) == 0;
+}
+
+/* Where the search stops: a mailbox that matches, or 32; and how many were compared by then. */
+struct match {
+    uint32_t mailbox, count;
+};
+
+static struct match search(const uint8_t *image, uint32_t frame)
+{
+    uint32_t candidates = get(image, MC) & (frame & FRAME_RTR ? ~0u : get(image, MD));
+    uint32_t compared = frame & IDE ? IDE | IDENTIFIER : IDE | BASE;
+    uint32_t under_gam = compared & ~get(image, GAM), under_lam = compared & ~get(image, LAM);
+    struct match m = {NO_MAILBOX, 0};
+
+    for (; candidates; candidates &= candidates - 1) {
+        uint32_t n = (uint32_t)__builtin_ctz(candidates), own = get(image, 4 * n);
+        uint32_t masked = n == 31 ? under_lam : under_gam;
+
+        m.count++;
+        if (((own ^ frame) & (own & MASKED ? masked : compared)) == 0) {
+            m.mailbox = n;
+            break;
+        }
+    }
+    return m;
+}
+
+static void store(uint8_t *image, uint32_t n, struct event e)
+{
+    uint32_t bit = 1u << n, frame = value(e), remote = frame & FRAME_RTR;
+    uint8_t *data = image + 16 * n + 8;
+    uint64_t kept = get_double(data) & ~carried(e), now = kept | e.data;
+
+    set(image, 4 * n, (get(image, 4 * n) & (MASKED | RFH)) | (frame & (IDE | IDENTIFIER)));
+    set(image, 4 * n + 1, get(image, TSC) << 16 | (remote ? RTR : 0) | target(e));
+    memcpy(data, &now, sizeof now);
+    if (get(image, RMP) & bit) {
+        set_bits(image, RML, bit);
+        set_bits(image, GIF, LOST);
+    }
+    set_bits(image, RMP, bit);
+    set_bits(image, MBRIF, bit & get(image, MBIM));
+    if (remote) {
+        set_bits(image, RFP, bit);
+        set_bits(image, GIF, REMOTE_CAME);
+    } else {
+        clear_bits(image, RFP, bit);
+    }
+}
+
+/* A heard frame was good, whoever wanted it. */
+static void count_good_frame(uint8_t *image)
+{
+    uint32_t rec = get(image, REC);
+
+    if (rec)
+        set(image, REC, rec > 127 ? 127 : rec - 1);
+}
+
+/* A transmit mailbox is matched by a remote frame alone: it replies, or keeps silent. */
+static uint64_t deliver(uint8_t *image, struct match m, struct event e)
+{
+    if (m.mailbox == NO_MAILBOX)
+        return found(NO_MAILBOX, m.count);
+    if (get(image, MD) >> m.mailbox & 1)
+        store(image, m.mailbox, e);
+    else if (get(image, 4 * m.mailbox) & RFH)
+        set_bits(image, TRS, 1u << m.mailbox);
+    else
+        return found(NO_MAILBOX, m.count);
+    return found(m.mailbox, m.count);
+}
+
+static uint64_t receive(uint8_t *image, struct event e)
+{
+    if (!allowed_frame(e))
+        return refused(NOT_ALLOWED);
+    if (slot_filled(image))
+        return refused(BUSY);
+    if (!on_bus(image)) {
+        if (asleep(image) && get(image, OPTIONS) & WUBA)
+            wake(image);
+        return ACCEPTED;
+    }
+    count_good_frame(image);
+    return deliver(image, search(image, value(e)), e);
+}
+
+static uint64_t receive_error(uint8_t *image, struct event e)
+{
+    uint32_t before, rec;
+
+    if (dirty(e, TARGET | WORD) || (value(e) != 1 && value(e) != 8))
+        return refused(NOT_ALLOWED);
+    if (slot_filled(image))
+        return refused(BUSY);
+    if (!on_bus(image))
+        return ACCEPTED;
+    before = conditions(image);
+    rec = get(image, REC) + value(e);
+    set(image, REC, rec > 255 ? 255 : rec);
+    set_bits(image, GIF, conditions(image) & ~before);
+    return ACCEPTED;
+}
+
+/* ---- sending */
+
+/* What goes over the bus first wins: base, then RTR or SRR, then IDE, then the rest. */
+static uint32_t arbitration_key(uint32_t identifier, uint32_t control)
+{
+    uint32_t base = (identifier & BASE) << 3, rtr = control >> 4 & 1;
+
+    if (identifier & IDE)
+        return base | 1u << 20 | 1u << 19 | (identifier & LOW) << 1 | rtr;
+    return base | rtr << 20;
+}
+
+static inline uint32_t key_of(const uint8_t *image, uint32_t n)
+{
+    return arbitration_key(get(image, 4 * n), get(image, 4 * n + 1));
+}
+
+/* The smallest key among these mailboxes, at least one; the lower number where two are equal. */
+static uint32_t smallest_key(const uint8_t *image, uint32_t eligible)
+{
+    uint32_t best = (uint32_t)__builtin_ctz(eligible), best_key = key_of(image, best);
+
+    while (eligible &= eligible - 1) {
+        uint32_t n = (uint32_t)__builtin_ctz(eligible), key = key_of(image, n);
+
+        if (key < best_key) {
+            best = n;
+            best_key = key;
+        }
+    }
+    return best;
+}
+
+static uint64_t start(uint8_t *image, struct event e)
+{
+    uint32_t eligible, n;
+
+    if (dirty(e, TARGET | WORD | VALUE))
+        return refused(NOT_ALLOWED);
+    if (slot_filled(image))
+        return refused(BUSY);
+    eligible = get(image, TRS) & get(image, MC) & ~get(image, CDR) & ~get(image, TRR);
+    if (!on_bus(image) || eligible == 0)
+        return ACCEPTED;
+    if (get(image, OPTIONS) & MTOS)
+        n = smallest_key(image, eligible);
+    else
+        n = (uint32_t)__builtin_ctz(eligible);
+    set(image, SLOT, n);
+    return found(n, 0);
+}
+
+static void sent(uint8_t *image, uint32_t n)
+{
+    uint32_t bit = 1u << n, tec = get(image, TEC), control = get(image, 4 * n + 1);
+
+    clear_bits(image, TRS, bit);
+    set(image, TRR, 0); /* it can only stand at the slot */
+    set_bits(image, TA, bit);
+    set_bits(image, MBTIF, bit & get(image, MBIM));
+    set(image, 4 * n + 1, get(image, TSC) << 16 | (control & 0xFFFF));
+    set(image, TEC, tec - (tec > 0));
+}
+
+/* Lost or failed: a request to cancel now ends it, else it goes on waiting. */
+static void not_sent(uint8_t *image, uint32_t bit)
+{
+    if (get(image, TRR) == 0)
+        return;
+    clear_bits(image, TRS, bit);
+    set(image, TRR, 0);
+    set_bits(image, AA, bit);
+    set_bits(image, GIF, ABORTED);
+}
+
+static void count_send_error(uint8_t *image)
+{
+    uint32_t before = conditions(image), tec = get(image, TEC) + 8;
+
+    set(image, TEC, tec > BUS_OFF ? BUS_OFF : tec);
+    set_bits(image, GIF, conditions(image) & ~before);
+}
+
+enum { SENT, ARBITRATION_LOST, ERROR };
+
+static uint64_t outcome(uint8_t *image, struct event e)
+{
+    uint32_t how = target(e), n = get(image, SLOT);
+
+    if (how > ERROR)
+        return refused(UNKNOWN);
+    if (dirty(e, WORD | VALUE))
+        return refused(NOT_ALLOWED);
+    if (n == EMPTY)
+        return refused(NOTHING_SENT);
+    set(image, SLOT, EMPTY);
+    if (how == SENT)
+        sent(image, n);
+    else
+        not_sent(image, 1u << n);
+    if (how == ERROR)
+        count_send_error(image);
+    take_waiting_mode(image);
+    return found(n, 0);
+}
+
+/* ---- the rest of the bus and the clock */
+
+static uint64_t eleven_recessive(uint8_t *image, struct event e)
+{
+    uint32_t count = get(image, RECOVERY) + 1;
+
+    if (dirty(e, TARGET | WORD | VALUE))
+        return refused(NOT_ALLOWED);
+    if (get(image, TEC) != BUS_OFF)
+        return ACCEPTED;
+    if (count < 128) {
+        set(image, RECOVERY, count);
+        return ACCEPTED;
+    }
+    set(image, RECOVERY, 0);
+    set(image, TEC, 0);
+    set(image, REC, 0);
+    take_waiting_mode(image);
+    return ACCEPTED;
+}
+
+static uint64_t tick(uint8_t *image, struct event e)
+{
+    uint32_t next = (get(image, TSC) + 1) & 0xFFFF;
+
+    if (dirty(e, TARGET | WORD | VALUE))
+        return refused(NOT_ALLOWED);
+    if (asleep(image))
+        return ACCEPTED;
+    set(image, TSC, next);
+    if (next == 0) {
+        set(image, TSO, 1);
+        set_bits(image, GIF, OVERFLOWED);
+    }
+    return ACCEPTED;
+}
+
+static uint64_t set_options(uint8_t *image, struct event e)
+{
+    if (asleep(image))
+        return refused(ASLEEP);
+    if (dirty(e, TARGET | WORD) || value(e) > (MTOS | WUBA))
+        return refused(NOT_ALLOWED);
+    set(image, OPTIONS, value(e));
+    return ACCEPTED;
+}
+
+static void fresh_registers(uint8_t *image)
+{
+    memset(image + REGISTER_BYTES, 0, IMAGE_BYTES - REGISTER_BYTES);
+    set(image, MD, MAILBOX_31);
+    set(image, MODE, CONFIGURATION);
+    set(image, WAITING, NO_MODE);
+    set(image, SLOT, EMPTY);
+}
+
+static uint64_t reset(uint8_t *image, struct event e)
+{
+    if (dirty(e, TARGET | WORD | VALUE))
+        return refused(NOT_ALLOWED);
+    fresh_registers(image);
+    return ACCEPTED;
+}
+
+/* ---- the three functions */
+
+uint64_t reference_fresh(uint8_t *image, size_t image_len)
+{
+    if (image_len != IMAGE_BYTES)
+        return refused(BAD_IMAGE);
+    memset(image, 0, REGISTER_BYTES);
+    fresh_registers(image);
+    return ACCEPTED;
+}
+
+uint64_t reference_step(uint8_t *image, size_t image_len, const uint8_t *event, size_t event_len)
+{
+    struct event e;
+
+    if (!good(image, image_len))
+        return refused(BAD_IMAGE);
+    if (event_len != 16)
+        return refused(UNKNOWN);
+    e.head = get_double(event);
+    e.data = get_double(event + 8);
+    switch (operation(e)) {
+    case 0: return write_register(image, e);
+    case 1: return write_mailbox(image, e);
+    case 2: return receive(image, e);
+    case 3: return start(image, e);
+    case 4: return outcome(image, e);
+    case 5: return receive_error(image, e);
+    case 6: return eleven_recessive(image, e);
+    case 7: return tick(image, e);
+    case 8: return request_mode(image, e);
+    case 9: return set_options(image, e);
+    case 10: return reset(image, e);
+    default: return refused(UNKNOWN);
+    }
+}
+
+/* Of a model that is awake. */
+static uint32_t gsr(const uint8_t *image)
+{
+    uint32_t mode = get(image, MODE);
+
+    return get(image, SLOT) << 12 | (uint32_t)slot_filled(image) << 10 |
+           (uint32_t)(mode == SUSPEND) << 8 | (uint32_t)(mode == CONFIGURATION) << 7 |
+           get(image, TSO) << 3 | conditions(image);
+}
+
+uint64_t reference_read(const uint8_t *image, size_t image_len, uint32_t number)
+{
+    if (!good(image, image_len))
+        return (uint64_t)BAD_IMAGE << 32;
+    if (number > 21 && number != 32)
+        return (uint64_t)UNKNOWN << 32;
+    if (asleep(image))
+        return number == 32 ? 0x0001F040 : 0;
+    return number == 32 ? gsr(image) : get(image, MC + number);
+}

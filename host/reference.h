@@ -1,0 +1,17 @@
+/*
+ * A second implementation of document 01, in plain C, apart from the proved one: it was written from
+ * document 01 and docs/DECISIONS.md alone. The tests hold the two against each other.
+ *
+ * The functions have the signatures and the answers of those in frostsorrel.h.
+ */
+#ifndef REFERENCE_H
+#define REFERENCE_H
+
+#include <stddef.h>
+#include <stdint.h>
+
+uint64_t reference_fresh(uint8_t *image, size_t image_len);
+uint64_t reference_step(uint8_t *image, size_t image_len, const uint8_t *event, size_t event_len);
+uint64_t reference_read(const uint8_t *image, size_t image_len, uint32_t number);
+
+#endif
