@@ -1,8 +1,12 @@
 # make run        builds the library and prints every register of a fresh model
 # make test       the gate: the same as .ci/run
 # make host-test  the C tests alone
+# make compare    the library against the reference, STEPS=200000 SEED=1
 
-.PHONY: run test host-test
+STEPS = 200000
+SEED = 1
+
+.PHONY: run test host-test compare
 
 run:
 	@host/build registers
@@ -13,3 +17,7 @@ test:
 
 host-test:
 	@host/test
+
+compare:
+	@host/build compare
+	@host/run compare $(STEPS) $(SEED)

@@ -2,33 +2,10 @@
 #ifndef CHECK_H
 #define CHECK_H
 
-#include <stdarg.h>
-#include <stdio.h>
-
-static unsigned long checks, failures;
-
-/* Failures beyond this many are counted and not printed: one fault can show thousands of times. */
-#define MOST_PRINTED 40
-
-__attribute__((format(printf, 2, 3))) static void check(int ok, const char *format, ...)
-{
-    va_list words;
-
-    checks++;
-    if (ok || ++failures > MOST_PRINTED)
-        return;
-    printf("FAILED: ");
-    va_start(words, format);
-    vprintf(format, words);
-    va_end(words);
-    printf("\n");
-}
+/* A check with the words to print if it failed. */
+__attribute__((format(printf, 2, 3))) void check(int ok, const char *format, ...);
 
 /* Prints the sum, and answers the exit status of the program. */
-static int report(const char *name)
-{
-    printf("%s: %lu checks, %lu failed\n", name, checks, failures);
-    return failures != 0;
-}
+int report(const char *name);
 
 #endif

@@ -5,51 +5,10 @@
 #ifndef CLAUSES_H
 #define CLAUSES_H
 
-#include "image.h"
-
-#define COUNT(table) (sizeof(table) / sizeof((table)[0]))
+#include "states.h"
 
 /* Asks the library whether an image is good, and checks the verdict. */
 typedef void judge(const char *what, const uint8_t *image, int good);
-
-/* ---- images: one of five states, then some words changed */
-
-struct edit {
-    int used, word;
-    uint32_t value;
-};
-#define EDITS 5
-#define SET(word, value) {1, word, value}
-
-enum state { FRESH, NORMAL, SENDING, BUS_OFF, ASLEEP };
-
-static const struct edit states[][EDITS] = {
-    [NORMAL] = {SET(MODE, NORMAL_MODE)},
-    [SENDING] = {SET(MODE, NORMAL_MODE), SET(SLOT, 3), SET(TRS, 8), SET(MC, 8)},
-    [BUS_OFF] = {SET(MODE, NORMAL_MODE), SET(TEC, 256)},
-    [ASLEEP] = {SET(MODE, SLEEP)},
-};
-
-static inline void change(uint8_t *image, const struct edit *edits)
-{
-    for (int i = 0; i < EDITS && edits[i].used; i++)
-        put(image, edits[i].word, edits[i].value);
-}
-
-static inline void make(uint8_t *image, enum state state, const struct edit *edits)
-{
-    put_fresh(image);
-    change(image, states[state]);
-    change(image, edits);
-}
-
-/* A state with one word changed. */
-static inline void make_with(uint8_t *image, enum state state, int word, uint32_t value)
-{
-    const struct edit one[EDITS] = {SET(word, value)};
-
-    make(image, state, one);
-}
 
 /* ---- good image: each clause broken alone, and its nearest neighbours that are good.
  *

@@ -71,9 +71,23 @@ static int try_change(struct trial *t, uint8_t *at, const uint8_t *simpler, size
     return 0;
 }
 
+/* A word of the image as a fresh one has it, or with fewer bits beyond those. */
+static int try_simpler_word(struct trial *t, size_t at, const uint8_t *fresh)
+{
+    int changed = try_change(t, t->image + at, fresh + at, 4);
+
+    for (int bit = 0; bit < 32; bit++) {
+        uint8_t simpler = (uint8_t)~(1u << bit % 8) | fresh[at + bit / 8];
+
+        simpler &= t->image[at + bit / 8];
+        changed |= try_change(t, t->image + at + bit / 8, &simpler, 1);
+    }
+    return changed;
+}
+
 static void shrink(struct trial *t)
 {
-    static const uint8_t zero[4];
+    static const uint8_t zero;
     uint8_t fresh[BYTES];
     int changed = 1;
 
@@ -81,9 +95,9 @@ static void shrink(struct trial *t)
     while (changed) {
         changed = 0;
         for (size_t i = 0; t->image_len == BYTES && i < BYTES; i += 4)
-            changed |= try_change(t, t->image + i, fresh + i, 4);
+            changed |= try_simpler_word(t, i, fresh);
         for (size_t i = 0; i < t->event_len; i++)
-            changed |= try_change(t, t->event + i, zero, 1);
+            changed |= try_change(t, t->event + i, &zero, 1);
     }
 }
 
@@ -91,7 +105,8 @@ static void print_result(const char *who, const struct result *r)
 {
     printf("    %s answers refusal %u, mailbox %u, count %u\n", who,
            (unsigned)frostsorrel_answer_refusal(r->answer),
-           (unsigned)frostsorrel_answer_mailbox(r->answer), (unsigned)frostsorrel_answer_count(r->answer));
+           (unsigned)frostsorrel_answer_mailbox(r->answer),
+           (unsigned)frostsorrel_answer_count(r->answer));
 }
 
 static void print_words(const char *what, const uint8_t *first, const uint8_t *second)
@@ -110,7 +125,8 @@ static void explain(struct trial t)
     shrink(&t);
     ours = result_of(&t, frostsorrel_step);
     theirs = result_of(&t, reference_step);
-    printf("    image of %lu bytes, event of %lu:", (unsigned long)t.image_len, (unsigned long)t.event_len);
+    printf("    image of %lu bytes, event of %lu:", (unsigned long)t.image_len,
+           (unsigned long)t.event_len);
     for (size_t i = 0; i < t.event_len; i++)
         printf(" %02X", t.event[i]);
     printf("\n");

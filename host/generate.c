@@ -7,6 +7,11 @@
 #define COUNT(table) ((uint32_t)(sizeof(table) / sizeof((table)[0])))
 #define ONE_OF(table) ((table)[draw(COUNT(table))])
 
+/*
+ * C leaves open which operand or argument is evaluated first. So that a seed means the same on every
+ * machine, two unlike draws never stand in one expression.
+ */
+
 /* ---- numbers */
 
 static uint64_t state = 1;
@@ -98,11 +103,25 @@ static uint32_t any_mask(void)
     return one_in(6) ? any_word() & 0x9FFFFFFF : ONE_OF(masks);
 }
 
+static uint32_t any_word_0(void)
+{
+    uint32_t identifier = any_identifier(), masked = one_in(3) ? MASKED : 0, rfh = one_in(2) ? RFH : 0;
+
+    return identifier | masked | rfh;
+}
+
+static uint32_t any_word_1(void)
+{
+    uint32_t stamp = draw(65536), rtr = draw(2), dlc = draw(9);
+
+    return CONTROL(stamp, rtr, dlc);
+}
+
 static uint32_t any_mailbox_word(int k)
 {
     switch (k) {
-    case 0: return any_identifier() | (one_in(3) ? MASKED : 0) | (one_in(2) ? RFH : 0);
-    case 1: return CONTROL(draw(65536), draw(2), draw(9));
+    case 0: return any_word_0();
+    case 1: return any_word_1();
     default: return any_word();
     }
 }
@@ -111,7 +130,7 @@ static uint32_t any_mailbox_word(int k)
 
 static struct event any_frame(void)
 {
-    uint64_t data = (uint64_t)any_word() << 32 | any_word();
+    uint64_t low = any_word(), data = (uint64_t)any_word() << 32 | low;
     int dlc = (int)draw(9);
 
     if (one_in(3))
@@ -131,10 +150,10 @@ static uint32_t any_timing(void)
 
 static struct event any_register_write(void)
 {
-    int word = MC + (int)draw(20);
+    int word = MC + (int)draw(20), refused = one_in(4);
 
     switch (word) {
-    case RML: case RFP: return write_register(one_in(4) ? word : TRS, any_flags());
+    case RML: case RFP: return write_register(refused ? word : TRS, any_flags());
     case MC: return write_register(MC, any_flags() | any_flags());
     case LAM: case GAM: return write_register(word, any_mask());
     case CDR: return write_register(CDR, one_in(2) ? 0 : any_flags() & ~BIT_31);
@@ -157,10 +176,11 @@ static struct event any_mailbox_write(const uint8_t *image, int k)
 /* Setting up, while no mailbox is enabled: what the rest of a run will meet. */
 static struct event any_setup(const uint8_t *image)
 {
-    switch (draw(12)) {
+    switch (draw(16)) {
     case 0: return write_register(MC, any_flags() | any_flags());
     case 1: case 2: return write_register(MD, any_flags());
-    case 3: return write_register(one_in(2) ? GAM : LAM, any_mask());
+    case 3: return write_register(GAM, any_mask());
+    case 4: return write_register(LAM, any_mask());
     default: return any_mailbox_write(image, one_in(3) ? (int)draw(4) : 0);
     }
 }
@@ -216,8 +236,10 @@ static struct event next_event(const uint8_t *image)
 
 static struct event event_of_any_operation(const uint8_t *image)
 {
+    int word = MC + (int)draw(21);
+
     switch (draw(16)) {
-    case 0: return write_register(MC + (int)draw(21), edge_value());
+    case 0: return write_register(word, edge_value());
     case 1: return any_register_write();
     case 2: return any_mailbox_write(image, (int)draw(4));
     case 3: case 4: case 5: return any_frame();
@@ -235,13 +257,15 @@ static struct event event_of_any_operation(const uint8_t *image)
 /* Answers the event's length. */
 static size_t damage(uint8_t *event)
 {
+    uint32_t at = draw(EVENT_BYTES), bit = draw(32);
+
     switch (draw(8)) {
-    case 0: event[draw(EVENT_BYTES)] ^= (uint8_t)(1u << draw(8)); break;
-    case 1: event[draw(EVENT_BYTES)] = (uint8_t)draw(256); break;
-    case 2: event[1 + draw(3)] = (uint8_t)draw(36); break;
+    case 0: event[at] ^= (uint8_t)(1u << bit % 8); break;
+    case 1: event[at] = (uint8_t)draw(256); break;
+    case 2: event[1 + at % 3] = (uint8_t)draw(36); break;
     case 3: event[0] = (uint8_t)draw(14); break;
     case 4: case 5: put(event, 1, edge_value()); break;
-    case 6: put(event, 1, word_of(event, 1) ^ 1u << draw(32)); break;
+    case 6: put(event, 1, word_of(event, 1) ^ 1u << bit); break;
     default:
         draw_bytes(event + EVENT_BYTES, LONGEST_EVENT - EVENT_BYTES);
         return draw(LONGEST_EVENT + 1);
@@ -357,15 +381,21 @@ void spoil(uint8_t *image)
 {
     static const int below_31[] = {MD, TRS, TRR, TA, AA, CDR, MBTIF};
     static const int paired[] = {TRS, TRR, RML, RFP, RMP, MC, MD};
+    static const int masks[] = {LAM, GAM};
+    uint32_t bit = 1u << draw(32);
+    int n = (int)draw(32), k = (int)draw(2), word;
 
     switch (draw(8)) {
     case 0: flip(image, ONE_OF(below_31), BIT_31); break;
-    case 1: flip(image, ONE_OF(paired), 1u << draw(32)); break;
-    case 2: flip(image, one_in(2) ? LAM : GAM, 1u << (29 + draw(2))); break;
-    case 3: put(image, GIF + (int)draw(TSO - GIF + 5), edge_value()); break; /* words 15 to 31 */
-    case 4: put(image, MODE + (int)draw(4), draw(6)); break;
-    case 5: put(image, TEC, 256 - draw(2)); break;
-    case 6: flip(image, MAILBOX((int)draw(32), (int)draw(2)), 1u << draw(32)); break;
-    default: image[draw(BYTES)] ^= (uint8_t)(1u << draw(8));
+    case 1: flip(image, ONE_OF(paired), bit); break;
+    case 2: flip(image, masks[k], n % 2 ? 1u << 29 : 1u << 30); break;
+    case 3:
+        word = GIF + (int)draw(WORDS - GIF);
+        put(image, word, edge_value());
+        break;
+    case 4: put(image, MODE + n % 4, draw(6)); break; /* mode, waiting mode, slot, recovery count */
+    case 5: put(image, TEC, BUS_OFF_TEC - draw(2)); break;
+    case 6: flip(image, MAILBOX(n, k), bit); break;
+    default: flip(image, (int)draw(WORDS), bit);
     }
 }

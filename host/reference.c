@@ -127,13 +127,19 @@ static inline uint32_t stray_control(uint32_t word)
     return (word & 0xFFE0) | (((word & 0xF) + 7) & 0x10);
 }
 
+/* The two tests above over all mailboxes at once: what they ask for is gathered, and looked at last. */
 static bool good_mailboxes(const uint8_t *image)
 {
-    uint32_t stray = 0;
+    uint32_t standard = 0, control = 0, length = 0;
 
-    for (unsigned n = 0; n < 32; n++)
-        stray |= stray_identifier(get(image, 4 * n)) | stray_control(get(image, 4 * n + 1));
-    return stray == 0;
+    for (unsigned n = 0; n < 32; n++) {
+        uint32_t first = get(image, 4 * n), second = get(image, 4 * n + 1);
+
+        standard |= first & ((first >> 31) - 1);
+        control |= second;
+        length |= (second & 0xF) + 7;
+    }
+    return ((standard & LOW) | (control & 0xFFE0) | (length & 0x10)) == 0;
 }
 
 /* Bits that no good image has, whatever the other words say. */

@@ -24,17 +24,21 @@ listened b =
     withGif (withMode (withRec b (cond (onBus b) (fallen (b .rec)) (b .rec))) (cond (wakened b) normal (b .mode)))
     (gifWith b (wakened b) 6)
 
--- Receiving: a frame stored in mailbox n. Where one was pending, it is lost: RML and GIF bit 5 go up. RMP goes up, RFP
--- becomes the frame's RTR, a remote frame raises GIF bit 7, and MBRIF goes up under MBIM.
-unfoldable pub stored : Block → ℕ → Bool → Block
-stored b n rtr =
+-- Receiving: a frame stored in the mailbox that the flag word x names. Where one was pending, it is lost: RML goes up, and GIF
+-- bit 5 where `lost` says so. RMP goes up, RFP becomes the frame's RTR, a remote frame raises GIF bit 7, and MBRIF goes up
+-- under MBIM.
+abbrev pub flagged : Block → ℕ → Bool → Bool → Block
+flagged b x lost rtr =
     withGif
     (withMbrif
     (withRfp
-    (withRmp (withRml b (bitOr (b .rml) (bitAnd (b .rmp) (mask n)))) (bitOr (b .rmp) (mask n)))
-    (cond rtr (bitOr (b .rfp) (mask n)) (without (b .rfp) (mask n))))
-    (bitOr (b .mbrif) (bitAnd (b .mbim) (mask n))))
-    (bitOr (gifWith b (bit (b .rmp) n) 5) (flag rtr 7))
+    (withRmp (withRml b (bitOr (b .rml) (bitAnd (b .rmp) x))) (bitOr (b .rmp) x))
+    (cond rtr (bitOr (b .rfp) x) (without (b .rfp) x)))
+    (bitOr (b .mbrif) (bitAnd (b .mbim) x)))
+    (bitOr (gifWith b lost 5) (flag rtr 7))
+
+unfoldable pub stored : Block → ℕ → Bool → Block
+stored b n rtr = flagged b (mask n) (bit (b .rmp) n) rtr
 
 -- Receiving: a remote frame at transmit mailbox n with RFH 1 asks for a sending.
 abbrev pub replied : Block → ℕ → Block

@@ -1,10 +1,9 @@
-use Prim.Native.Nat.{ℕ}
 use mathlib.Core.Path.{_∙_, ap, ap₂}
-use mathlib.Core.Bool.{Bool, cond}
-use lib.Bits.{bitAnd, bitOr}
+use mathlib.Core.Bool.{Bool, true, cond}
+use lib.Bits.{bitOr}
 use Rattle.bits.specs.Bit.{mask, without, flag}
-use Rattle.registers.specs.Block.{withRmp, withRml, withRfp, withMbrif, withGif}
-use Rattle.registers.specs.Frames.{stored}
+use Rattle.registers.specs.Block.{withRfp, withGif}
+use Rattle.registers.specs.Frames.{stored, flagged}
 use borrow.Author.Needs.{needs}
 use Rattle.registers.proofs.Block.hold.Statement.{statement}
 use Rattle.registers.proofs.Block.hold.Tie as tie
@@ -32,12 +31,9 @@ unfolding stored
 returns c =
     let b = c .before .before .before .before .before .before .before .before .before .before .before .before .before .args .self in
     let x = c .before .before .before .before .before .before .before .before .before .before .before .before .mask .ensures in
-    let rml = ap (λ (m : ℕ). bitOr (b .rml) (bitAnd (b .rmp) m)) x in
-    let rmp = ap (bitOr (b .rmp)) x in
     let rfp = c .before .before .before .choose .ensures ∙ ap₂ (cond (c .before .before .before .before .before .before .before .before .before .before .before .before .before .args .rtr)) (ap (bitOr (b .rfp)) x) (c .before .before .before .before .without .ensures ∙ ap (without (b .rfp)) x) in
-    let mbrif = ap (λ (m : ℕ). bitOr (b .mbrif) (bitAnd (b .mbim) m)) x in
     let gif = ap₂ bitOr (ap (bitOr (b .gif)) (c .before .before .before .before .before .before .before .before .before .before .flag .ensures ∙ ap (λ (t : Bool). flag t 5) (c .before .before .before .before .before .before .before .before .before .before .before .test .ensures))) (c .before .before .before .before .before .before .before .before .before .flag2 .ensures) in
-    λ i. withGif (withMbrif (withRfp (withRmp (withRml b (rml i)) (rmp i)) (rfp i)) (mbrif i)) (gif i)
+    λ i. withGif (withRfp (flagged b (x i) true (c .before .before .before .before .before .before .before .before .before .before .before .before .before .args .rtr)) (rfp i)) (gif i)
 
 pub hold-spec : {M : Type 1} → statement M
 hold-spec =
