@@ -305,16 +305,32 @@ static void mailbox_words_not_allowed(void)
         refuse(write_mailbox(9, 1, BIT(bit)), 4);
     for (uint32_t dlc = 9; dlc < 16; dlc++)
         refuse(write_mailbox(9, 1, CONTROL(7, 1, dlc)), 4);
-    accept(write_mailbox(9, 0, 0xFFFFFFFF));
-    now({MAILBOX(9, 0), 0xFFFFFFFF});
-    accept(write_mailbox(9, 0, 0x7FFC0000));
-    now({MAILBOX(9, 0), 0x7FFC0000});
-    accept(write_mailbox(9, 1, 0xFFFF0018));
-    now({MAILBOX(9, 1), 0xFFFF0018});
-    accept(write_mailbox(9, 2, 0xFFFFFFFF));
-    now({MAILBOX(9, 2), 0xFFFFFFFF});
-    accept(write_mailbox(9, 3, 0xFFFFFFFF));
-    now({MAILBOX(9, 3), 0xFFFFFFFF});
+}
+
+static void allowed_word(int k, uint32_t value)
+{
+    accept(write_mailbox(9, k, value));
+    now({MAILBOX(9, k), value});
+}
+
+static void mailbox_words_allowed(void)
+{
+    begin("mailbox words allowed", FRESH);
+    for (int bit = 0; bit < 32; bit++) {
+        allowed_word(0, 0x80000000 | BIT(bit));
+        allowed_word(0, bit >= 18 ? BIT(bit) : 0);
+        allowed_word(1, bit >= 16 ? BIT(bit) : 0);
+        allowed_word(2, BIT(bit));
+        allowed_word(3, BIT(bit));
+    }
+    for (uint32_t dlc = 0; dlc <= 8; dlc++) {
+        allowed_word(1, CONTROL(0, 0, dlc));
+        allowed_word(1, CONTROL(0xFFFF, 1, dlc));
+    }
+    allowed_word(0, 0xFFFFFFFF);
+    allowed_word(0, 0x7FFC0000);
+    allowed_word(2, 0xFFFFFFFF);
+    allowed_word(3, 0xFFFFFFFF);
 }
 
 /* The registers that can be written: bits that are allowed, and bits that appear in a fresh image. */
@@ -602,6 +618,7 @@ void step_refusals(void)
     usages_are_accepted();
     frames_not_allowed();
     mailbox_words_not_allowed();
+    mailbox_words_allowed();
     register_values();
     other_values_not_allowed();
     busy_slot();

@@ -1,0 +1,1 @@
+// No code: one run whose books are computed.

@@ -1,0 +1,7 @@
+-- Theorems of the trace file and of its listing.
+pub mod Writing
+pub mod Answers
+pub mod Runs
+pub mod Bound
+pub mod Feeds
+pub mod Unique

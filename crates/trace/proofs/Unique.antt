@@ -1,0 +1,38 @@
+-- The promise of the listing: how it is met where there is room, and that it leaves no choice.
+use Prim.Native.Nat.{ℕ, _+_, _≤_}
+use mathlib.Core.Path.{_≡_, refl, sym, _∙_}
+use mathlib.Core.List.{List}
+use native.Mathlib.Omega.{arith}
+use lib.Dec.{ltb}
+use lib.ListN.{length}
+use mathlib.Core.Bool.{Bool, true, false}
+use borrow.Author.Tests.{le-ltb, ltb-false}
+use Rattle.trace.specs.Trace.{listing, longest, Put, Listed}
+use Rattle.trace.proofs.Writing.{written-is}
+use Rattle.trace.proofs.Bound.{listing-most}
+
+-- the listing, written from the front on
+pub listed : (f o : List ℕ) {x : List ℕ} {r : ℕ} → longest ≤ length o → Put o 0 (listing f) x r → Listed f o x r
+listed f o l p =
+    let e = le-ltb (length o) longest l in
+    let m = listing-most f in
+    let n : 0 + length (listing f) ≡ length (listing f) = omega arith in
+    record {
+      bytes = rw e (p .bytes ∙ written-is (listing f) o 0 (omega arith) ∙ rw n);
+      answered = rw e (p .behind ∙ n);
+    }
+
+-- two outcomes that meet the promise coincide
+pub same-bytes : {f o x y : List ℕ} {q r : ℕ} → Listed f o x q → Listed f o y r → x ≡ y
+same-bytes p q = p .bytes ∙ sym (q .bytes)
+
+pub same-answer : {f o x y : List ℕ} {q r : ℕ} → Listed f o x q → Listed f o y r → q ≡ r
+same-answer p q = p .answered ∙ sym (q .answered)
+
+-- the answer is never more than the lent bytes
+pub answer-most : {f o x : List ℕ} {r : ℕ} → Listed f o x r → r ≤ length o
+answer-most {f} {o} {x} {r} p = at (ltb (length o) longest) refl
+  where
+    at : (t : Bool) → ltb (length o) longest ≡ t → r ≤ length o
+    at true e = omega (arith, rw e at (p .answered))
+    at false e = omega (arith, rw e at (p .answered), ltb-false (length o) longest e, listing-most f)

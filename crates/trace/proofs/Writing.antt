@@ -1,0 +1,124 @@
+-- Laws of the text: decimal digits, and text written into lent bytes.
+use Prim.Native.Nat.{ℕ, zero, suc, _+_, _*_, _/_, _%_, _<_, _≤_}
+use mathlib.Core.Path.{_≡_, refl, sym, _∙_, ap}
+use mathlib.Core.Bool.{Bool, true, false, cond}
+use mathlib.Core.List.{List, [], _∷_, _++_, append-assoc}
+use native.Mathlib.Omega.{arith}
+use native.Mathlib.Numerals.{add-one}
+use lib.Dec.{ltb}
+use lib.ListN.{length, take, drop, set, length-append, length-set, take-append-drop}
+use lib.Seq.{take-suc-set, drop-set-lt}
+use borrow.Author.Tests.{ltb-true, ltb-false, lt-ltb, le-ltb}
+use Rattle.trace.specs.Trace.{decimalIn, decimal, written, Put}
+
+-- ---- decimal digits
+
+abbrev last : ℕ → List ℕ
+last n = (48 + n % 10) ∷ []
+
+-- more turns than the number needs change nothing
+enough : (j k n : ℕ) → n < j → n < k → decimalIn j n ≡ decimalIn k n
+unfolding decimalIn
+enough zero k n h l = absurd (omega arith)
+enough (suc j) zero n h l = absurd (omega arith)
+enough (suc j) (suc k) n h l = at (ltb n 10) refl (λ m. enough j k (n / 10) (omega arith) (omega arith))
+  where
+    at : (t : Bool) → ltb n 10 ≡ t → (10 ≤ n → decimalIn j (n / 10) ≡ decimalIn k (n / 10))
+        → cond t [] (decimalIn j (n / 10)) ++ last n ≡ cond t [] (decimalIn k (n / 10)) ++ last n
+    at true e r = refl
+    at false e r = ap (λ (x : List ℕ). x ++ last n) (r (ltb-false n 10 e))
+
+pub decimal-short : (n : ℕ) → n < 10 → decimal n ≡ (48 + n % 10) ∷ []
+unfolding decimal decimalIn
+decimal-short n h = rw (lt-ltb n 10 h)
+
+pub decimal-long : (n : ℕ) → 10 ≤ n → decimal n ≡ decimal (n / 10) ++ ((48 + n % 10) ∷ [])
+unfolding decimal decimalIn
+decimal-long n h =
+    rw (le-ltb n 10 h) (ap (λ (x : List ℕ). x ++ last n) (enough n (suc (n / 10)) (n / 10) (omega arith) (omega arith)))
+
+-- how many digits: one more for a bound ten times as large
+digits-more : (b k : ℕ) → ((m : ℕ) → m < b → length (decimal m) ≤ k) → 1 ≤ k → (n : ℕ) → n < 10 * b → length (decimal n) ≤ suc k
+digits-more b k f p n h = at (ltb n 10) refl
+  where
+    at : (t : Bool) → ltb n 10 ≡ t → length (decimal n) ≤ suc k
+    at true e = rw (decimal-short n (ltb-true n 10 e)) (omega arith)
+    at false e =
+        let m = ltb-false n 10 e in
+        omega (arith, ap length (decimal-long n m) ∙ length-append (decimal (n / 10)) (last n), f (n / 10) (omega arith))
+
+pub digits-one : (n : ℕ) → n < 10 → length (decimal n) ≤ 1
+digits-one n h = rw (decimal-short n h) (omega arith)
+
+pub digits-two : (n : ℕ) → n < 100 → length (decimal n) ≤ 2
+digits-two n h = digits-more 10 1 digits-one (omega arith) n h
+
+digits-three : (n : ℕ) → n < 1000 → length (decimal n) ≤ 3
+digits-three n h = digits-more 100 2 digits-two (omega arith) n h
+
+pub digits-four : (n : ℕ) → n < 10000 → length (decimal n) ≤ 4
+digits-four n h = digits-more 1000 3 digits-three (omega arith) n h
+
+-- ---- text in lent bytes
+
+pub length-written : (o : List ℕ) (at : ℕ) (t : List ℕ) → length (written o at t) ≡ length o
+unfolding written
+length-written o at [] = refl
+length-written o at (x ∷ t) = length-written (set o at x) (at + 1) t ∙ length-set o at x
+
+-- one text behind another
+pub written-append : (o : List ℕ) (at : ℕ) (t u : List ℕ) → written (written o at t) (at + length t) u ≡ written o at (t ++ u)
+unfolding written
+written-append o at [] u =
+    let e : at + 0 ≡ at = omega arith in
+    ap (λ (k : ℕ). written o k u) e
+written-append o at (x ∷ t) u =
+    let e : at + length (x ∷ t) ≡ at + 1 + length t = omega arith in
+    ap (λ (k : ℕ). written (written (set o at x) (at + 1) t) k u) e ∙ written-append (set o at x) (at + 1) t u
+
+-- where there is room, the text stands there and nothing else changes
+pub written-is : (t o : List ℕ) (at : ℕ) → at + length t ≤ length o → written o at t ≡ take at o ++ (t ++ drop (at + length t) o)
+unfolding written
+written-is [] o at h =
+    let e : at + 0 ≡ at = omega arith in
+    sym (ap (λ (k : ℕ). take at o ++ drop k o) e ∙ take-append-drop at o)
+written-is (x ∷ t) o at h =
+    let l : length (set o at x) ≡ length o = length-set o at x in
+    let e1 : take (at + 1) (set o at x) ≡ take at o ++ (x ∷ []) =
+    ap (λ (k : ℕ). take k (set o at x)) (add-one at) ∙ take-suc-set o at x (omega arith) in
+    let n : at + 1 + length t ≡ at + length (x ∷ t) = omega arith in
+    let e2 : drop (at + 1 + length t) (set o at x) ≡ drop (at + length (x ∷ t)) o =
+    drop-set-lt (at + 1 + length t) o at x (omega arith) ∙ ap (λ (k : ℕ). drop k o) n in
+    written-is t (set o at x) (at + 1) (omega arith)
+    ∙ ap (λ (p : List ℕ). p ++ (t ++ drop (at + 1 + length t) (set o at x))) e1
+    ∙ append-assoc (take at o) (x ∷ []) (t ++ drop (at + 1 + length t) (set o at x))
+    ∙ ap (λ (p : List ℕ). take at o ++ (x ∷ (t ++ p))) e2
+
+-- ---- what two writers in a row promise together
+
+module _ {o : List ℕ} {at : ℕ} {t x : List ℕ} {p : ℕ} where
+  pub as-text : {u : List ℕ} → t ≡ u → Put o at t x p → Put o at u x p
+  as-text e h = record { bytes = h .bytes ∙ ap (written o at) e; behind = h .behind ∙ ap (λ (l : List ℕ). at + length l) e }
+
+  pub kept : Put o at t x p → length x ≡ length o
+  kept h = ap length (h .bytes) ∙ length-written o at t
+
+  pub onward : Put o at t x p → (u : List ℕ) → written x p u ≡ written o at (t ++ u)
+  onward h u =
+      ap (λ (l : List ℕ). written l p u) (h .bytes)
+      ∙ ap (λ (k : ℕ). written (written o at t) k u) (h .behind)
+      ∙ written-append o at t u
+
+  pub behind-both : Put o at t x p → (u : List ℕ) → p + length u ≡ at + length (t ++ u)
+  behind-both h u = omega (arith, h .behind, length-append t u)
+
+  pub both-put : {u y : List ℕ} {q : ℕ} → Put o at t x p → Put x p u y q → Put o at (t ++ u) y q
+  both-put {u} h k = record { bytes = k .bytes ∙ onward h u; behind = k .behind ∙ behind-both h u }
+
+  -- the room that is left for the second
+  pub room : Put o at t x p → (u : List ℕ) → at + length (t ++ u) ≤ length o → p + length u ≤ length x
+  room h u l = omega (arith, kept h, behind-both h u)
+
+-- the room for the first of two texts
+pub front : (t u : List ℕ) (at n : ℕ) → at + length (t ++ u) ≤ n → at + length t ≤ n
+front t u at n h = omega (arith, length-append t u)

@@ -1,0 +1,21 @@
+use mathlib.Core.Path.{refl}
+use Rattle.trace.specs.Trace.{written}
+use borrow.Author.Needs.{needs}
+use Rattle.trace.proofs.text.put.Statement.{statement}
+use Rattle.trace.proofs.text.put.Tie as tie
+
+slice-write-out : tie.Need-slice-write-out
+slice-write-out c = search needs
+
+add-result : tie.Need-add-result
+add-result c = search needs
+
+same-length : tie.Need-same-length
+same-length c = search needs
+
+returns : tie.Need-returns
+unfolding written
+returns c = record { bytes = refl; behind = refl }
+
+pub put-spec : {M : Type 1} → statement M
+put-spec = tie.close (tie.spec slice-write-out add-result same-length returns)

@@ -1,0 +1,2 @@
+-- The trace file and its listing.
+pub mod Trace
