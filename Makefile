@@ -1,14 +1,19 @@
-# make run        builds the library and prints every register of a fresh model
+# make run        builds the trace program and prints the listing of a trace, TRACE=examples/worked.trace
+# make registers  builds the library and prints every register of a fresh model
 # make test       the gate: the same as .ci/run
 # make host-test  the C tests alone
 # make compare    the library against the reference, STEPS=200000 SEED=1
 
+TRACE = examples/worked.trace
 STEPS = 200000
 SEED = 1
 
-.PHONY: run test host-test compare
+.PHONY: run registers test host-test compare
 
 run:
+	@host/replay $(TRACE)
+
+registers:
 	@host/build registers
 	@host/run registers
 
