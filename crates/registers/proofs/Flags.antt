@@ -8,7 +8,7 @@ use Rattle.bits.specs.Bit.{bit, mask, without, flag}
 use Rattle.bits.proofs.Laws.{bit-and, bit-or, bit-without, bit-mask, bit-flag, bit-zero}
 use Rattle.registers.specs.declared.Block.{Block}
 use Rattle.registers.specs.Status.{filled, asleep}
-use Rattle.registers.specs.Writes.{slotMask, ending, late, requested, cancelled, released, noted}
+use Rattle.registers.specs.Writes.{slotMask, ending, late, requested, cancelled, released, noted, written}
 use Rattle.registers.specs.Modes.{ticked, overflows, entered, fallsAsleep}
 use Rattle.registers.specs.Frames.{listened, wakened, stored, replied}
 use Rattle.registers.specs.Sending.{eligible, sent, aborting, failed}
@@ -33,6 +33,28 @@ module _ (b : Block) (v m : ℕ) where
   pub released-rfp : bit (released b v .rfp) m ≡ (bit (b .rfp) m && not (bit v m))
   unfolding released
   released-rfp = bit-without (b .rfp) v m
+
+  -- TA, AA, MBTIF, MBRIF: a 1 clears
+  pub cleared-ta : bit (written b 4 v .ta) m ≡ (bit (b .ta) m && not (bit v m))
+  unfolding written
+  cleared-ta = bit-without (b .ta) v m
+
+  pub cleared-aa : bit (written b 5 v .aa) m ≡ (bit (b .aa) m && not (bit v m))
+  unfolding written
+  cleared-aa = bit-without (b .aa) v m
+
+  pub cleared-mbtif : bit (written b 12 v .mbtif) m ≡ (bit (b .mbtif) m && not (bit v m))
+  unfolding written
+  cleared-mbtif = bit-without (b .mbtif) v m
+
+  pub cleared-mbrif : bit (written b 13 v .mbrif) m ≡ (bit (b .mbrif) m && not (bit v m))
+  unfolding written
+  cleared-mbrif = bit-without (b .mbrif) v m
+
+  -- MD: the bit of the value, but bit 31 is up
+  pub directed-md : bit (written b 1 v .md) m ≡ (bit v m || eqb m 31)
+  unfolding written
+  directed-md = bit-or v (mask 31) m ∙ ap (λ (x : Bool). bit v m || x) (bit-mask 31 m)
 
   -- TRR: which requests end at once, and which wait for the slot's outcome
   pub ending-bit : bit (ending b v) m ≡ ((bit v m && bit (b .trs) m) && not (bit (slotMask b) m))
