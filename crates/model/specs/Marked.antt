@@ -7,7 +7,7 @@ use lib.Dec.{eqb}
 use Rattle.bits.specs.Bit.{digit}
 use Rattle.registers.specs.declared.Block.{Block}
 use Rattle.registers.specs.Block.{zeroBlock, freshBlock, withMode, withSlot, withTec, withTsc, withRec, normal, suspend}
-use Rattle.registers.specs.Status.{warning, gsr}
+use Rattle.registers.specs.Status.{busOff, passive, warning, gsr}
 use Rattle.registers.specs.Modes.{ticked}
 use Rattle.registers.specs.Frames.{listened}
 use Rattle.registers.specs.Sending.{failed}
@@ -49,6 +49,10 @@ table =
     ∷ row (failing 247 .tec) 255
     ∷ row (one (warning (withTec quietBlock 96))) 0
     ∷ row (one (warning (withTec quietBlock 97))) 1
+    ∷ row (one (passive (withTec quietBlock 127))) 0
+    ∷ row (one (passive (withTec quietBlock 128))) 1
+    ∷ row (one (busOff (withTec quietBlock 255))) 0
+    ∷ row (one (busOff (withTec quietBlock 256))) 1
     ∷ row (ticked (withTsc quietBlock 65535) .tsc) 0
     ∷ row (listened (withRec quietBlock 200) .rec) 127
     ∷ []

@@ -11,7 +11,7 @@ use Rattle.registers.specs.Status.{filled, asleep}
 use Rattle.registers.specs.Writes.{slotMask, ending, late, requested, cancelled, released, noted, written}
 use Rattle.registers.specs.Modes.{ticked, overflows, entered, fallsAsleep}
 use Rattle.registers.specs.Frames.{listened, wakened, stored, replied}
-use Rattle.registers.specs.Sending.{eligible, sent, aborting, failed}
+use Rattle.registers.specs.Sending.{sent, aborting, failed}
 
 -- ---- after a write of v
 
@@ -133,12 +133,6 @@ module _ (b : Block) (n : ℕ) (rtr : Bool) (m : ℕ) where
 -- ---- sending
 
 module _ (b : Block) (m : ℕ) where
-  pub eligible-bit : bit (eligible b) m ≡ (((bit (b .trs) m && bit (b .mc) m) && not (bit (b .cdr) m)) && not (bit (b .trr) m))
-  eligible-bit =
-      bit-without (without (bitAnd (b .trs) (b .mc)) (b .cdr)) (b .trr) m
-      ∙ ap (λ (x : Bool). x && not (bit (b .trr) m))
-      (bit-without (bitAnd (b .trs) (b .mc)) (b .cdr) m ∙ ap (λ (x : Bool). x && not (bit (b .cdr) m)) (bit-and (b .trs) (b .mc) m))
-
   pub sent-trs : bit (sent b .trs) m ≡ (bit (b .trs) m && not (bit (slotMask b) m))
   unfolding sent
   sent-trs = bit-without (b .trs) (slotMask b) m
