@@ -1,5 +1,3 @@
 -- The step.
 pub mod Step
 pub mod Ready
-pub mod Touched
-pub mod Marked

@@ -1,3 +1,5 @@
+use mathlib.Core.Path.{ap₂}
+use mathlib.Core.Bool.{_&&_}
 use borrow.Author.Needs.{needs}
 use Rattle.registers.proofs.Block.is_wakened.Statement.{statement}
 use Rattle.registers.proofs.Block.is_wakened.Tie as tie
@@ -9,7 +11,7 @@ test-requires : tie.Need-test-requires
 test-requires c κs = search needs
 
 returns : tie.Need-returns
-returns c = cc
+returns c = ap₂ _&&_ (c .before .is-asleep .ensures) (c .test .ensures)
 
 pub is-wakened-spec : {M : Type 1} → statement M
 is-wakened-spec = tie.close (tie.spec is-asleep-requires test-requires returns)

@@ -30,9 +30,9 @@ use Rattle.sending.specs.Choice.{next}
 use Rattle.answers.specs.Answer.{noMailbox}
 use Rattle.keeps.specs.Touch.{touches, among}
 use Rattle.keeps.proofs.Frame.{patched, unpatched, written-stays}
 use Rattle.model.specs.Step.{own, goes, remote, delivered, acted, blockAfter, startedWith, concluded, stowed, postmarked, rewritten, mailboxesAfter, accepted}
-use Rattle.model.specs.Touched.{storedIn, openedBy, changes, taking, mayChange}
-use Rattle.model.proofs.Kept.{Taken}
+use Rattle.demand2.specs.Touched.{storedIn, openedBy, changes, taking, mayChange}
+use Rattle.demand2.proofs.Kept.{Taken}
 
 -- ---- the bytes of the mailboxes
 

@@ -1,0 +1,3 @@
+-- What a step may change, and the marked numbers.
+pub mod Touched
+pub mod Marked
