@@ -4,8 +4,8 @@ use mathlib.Core.Path.{_≡_, refl, sym, _∙_, ap, subst}
 use mathlib.Core.List.{List, [], _∷_}
 use lib.ListN.{length, length-replicate}
 use Rattle.bits.proofs.Laws.{bit-zero}
-use Rattle.registers.specs.Block.{imageBytes, blockOf, freshBlock}
-use Rattle.fresh.specs.Fresh.{zeroImage, freshImage}
+use Rattle.registers.specs.Block.{imageBytes, blockOf}
+use Rattle.fresh.specs.Fresh.{freshBlock, zeroImage, freshImage}
 use Rattle.model.specs.Step.{step}
 use Rattle.books.specs.Ledger.{Now, now, afters, empty}
 use Rattle.books.specs.Happen.{happenings, run, history, left, booked, Demand3, flags, EachStep}

@@ -12,7 +12,8 @@ use Rattle.bits.proofs.Laws.{bit-zero}
 use Rattle.bits.proofs.Sets.{and-l, and-r}
 use Rattle.bits.proofs.Tests.{all, given}
 use Rattle.registers.specs.declared.Block.{Block}
-use Rattle.registers.specs.Block.{imageBytes, blockOf, freshBlock, withMc, withTa, withAa, withLam, withGam, withCdr, withMbtif, withMbrif, withMbim, withGim, withBcr1, withBcr2, withTsc}
+use Rattle.registers.specs.Block.{imageBytes, blockOf, withMc, withTa, withAa, withLam, withGam, withCdr, withMbtif, withMbrif, withMbim, withGim, withBcr1, withBcr2, withTsc}
+use Rattle.fresh.specs.Fresh.{freshBlock}
 use Rattle.registers.specs.Status.{filled}
 use Rattle.registers.specs.Writes.{directed, requested, cancelled, released, noted, writes, written}
 use Rattle.registers.specs.Modes.{ticked, worsened, recessive, optioned, asked, risen, ready, fallsAsleep, entered, settled}

@@ -10,7 +10,8 @@ use lib.ListN.{getD, length}
 use Rattle.words.specs.Word.{putWord}
 use Rattle.words.proofs.Laws.{length-put}
 use Rattle.registers.specs.declared.Block.{Block}
-use Rattle.registers.specs.Block.{registersAt, blockOf, toWords, freshBlock}
+use Rattle.registers.specs.Block.{registersAt, blockOf, toWords}
+use Rattle.fresh.specs.Fresh.{freshBlock}
 use Rattle.registers.specs.Modes.{ticked, worsened, recessive, asked, optioned, risen, ready, entered, settled}
 use Rattle.registers.specs.Frames.{listened, stored, replied}
 use Rattle.registers.specs.Sending.{started, sent, failed}

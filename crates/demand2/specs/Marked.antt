@@ -6,11 +6,13 @@ use mathlib.Core.List.{List, [], _∷_}
 use lib.Dec.{eqb}
 use Rattle.bits.specs.Bit.{digit}
 use Rattle.registers.specs.declared.Block.{Block}
-use Rattle.registers.specs.Block.{zeroBlock, freshBlock, withMode, withSlot, withTec, withTsc, withRec, normal, suspend}
-use Rattle.registers.specs.Status.{busOff, passive, warning, gsr}
+use Rattle.registers.specs.Block.{withMode, withSlot, withTec, withTsc, withRec, normal, suspend}
+use Rattle.fresh.specs.Fresh.{freshBlock}
+use Rattle.registers.specs.Status.{busOff, passive, warning}
 use Rattle.registers.specs.Modes.{ticked}
 use Rattle.registers.specs.Frames.{listened}
 use Rattle.registers.specs.Sending.{failed}
+use Rattle.reading.specs.Gsr.{gsr}
 use Rattle.mailboxes.specs.declared.Identifier.{Identifier}
 use Rattle.mailboxes.specs.Arbitration.{keyOf}
 

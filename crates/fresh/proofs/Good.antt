@@ -6,12 +6,12 @@ use lib.Dec.{lit<}
 use lib.ListN.{getD, length, replicate, length-replicate}
 use Rattle.bits.specs.Bit.{digit}
 use Rattle.words.specs.Word.{wordAt}
-use Rattle.registers.specs.Block.{imageBytes, freshBlock}
+use Rattle.registers.specs.Block.{imageBytes}
 use Rattle.mailboxes.specs.Mailbox.{layout}
 use Rattle.good.specs.Good.{goodFlags, goodNumbers, goodSlot, goodBlock, goodImage}
 use Rattle.good.proofs.Facts.{GoodBlock, block-facts}
 use Rattle.good.proofs.Image.{GoodImage, block-kept, image-good}
-use Rattle.fresh.specs.Fresh.{zeroImage, freshImage}
+use Rattle.fresh.specs.Fresh.{freshBlock, zeroImage, freshImage}
 
 zero-byte : (n i : ℕ) → _≡_ {A = ℕ} (getD (replicate n 0) i 0) 0
 zero-byte zero i = refl
@@ -39,7 +39,7 @@ zero-layout : (j : ℕ) → layout zeroImage j ≡ true
 unfolding layout digit
 zero-layout j = rw (zero-word (16 * j + 4 * 0), zero-word (16 * j + 4 * 1))
 
-fresh-block : GoodBlock freshBlock
+pub fresh-block : GoodBlock freshBlock
 unfolding freshBlock goodBlock goodFlags goodNumbers goodSlot digit
 fresh-block =
     block-facts freshBlock

@@ -1,10 +1,46 @@
 // A fresh model.
 ghost use mathlib.Core.Path.{_≡_};
 ghost use lib.ListN.{length, replicate};
-ghost use Rattle.registers.specs.Block.{imageBytes, putBlock, freshBlock};
+ghost use Rattle.registers.specs.Block.{imageBytes, putBlock};
 ghost use Rattle.answers.specs.Answer.{Promise};
-ghost use Rattle.fresh.specs.Fresh.{freshImage, fresh as freshOf};
+ghost use Rattle.fresh.specs.Fresh.{freshBlock, fresh as freshOf};
 use registers::Block;
+
+// The registers of a fresh model: mailbox 31 receives, the mode is configuration, none waits, nobody is in the slot.
+pub fn fresh_block() -> Block
+    ensures { λ r. ⌜ r ≡ freshBlock ⌝ }
+{
+    Block {
+        mc: 0,
+        md: 0x8000_0000,
+        trs: 0,
+        trr: 0,
+        ta: 0,
+        aa: 0,
+        rmp: 0,
+        rml: 0,
+        lam: 0,
+        gam: 0,
+        rfp: 0,
+        cdr: 0,
+        mbtif: 0,
+        mbrif: 0,
+        mbim: 0,
+        gif: 0,
+        gim: 0,
+        bcr1: 0,
+        bcr2: 0,
+        tsc: 0,
+        tec: 0,
+        rec: 0,
+        mode: 1,
+        waiting: 4,
+        slot: 31,
+        recovery: 0,
+        options: 0,
+        tso: 0,
+    }
+}
 
 fn clear(s: &mut [u8])
     ensures { λ r. ⌜ now (s .exit) ≡ replicate (length (now (s .entry))) 0 ⌝ }
@@ -21,7 +57,7 @@ pub fn fill_registers(image: &mut [u8])
     requires { ⌜ length (now image) ≡ imageBytes ⌝ }
     ensures { λ r. ⌜ now (image .exit) ≡ putBlock (now (image .entry)) freshBlock ⌝ }
 {
-    Block::fresh().store(image)
+    fresh_block().store(image)
 }
 
 // Any lent bytes become a fresh model; other lengths than an image's are refused and keep every byte.

@@ -10,7 +10,9 @@ use borrow.Author.Tests.{eqb-true, eqb-false, ltb-true, ltb-false}
 use Rattle.bits.specs.Bit.{digit}
 use Rattle.bits.proofs.Sets.{and-l, and-r}
 use Rattle.registers.specs.declared.Block.{Block}
-use Rattle.registers.specs.Block.{withRec, normal, emptySlot, busOffAt, freshBlock}
+use Rattle.registers.specs.Block.{withRec, normal, emptySlot, busOffAt}
+use Rattle.fresh.specs.Fresh.{freshBlock}
+use Rattle.fresh.proofs.Good.{fresh-block}
 use Rattle.registers.specs.Status.{asleep, busOff}
 use Rattle.registers.specs.Modes.{atMost, onBus, overflows, ticked, worsened, recessive, optioned, asked}
 use Rattle.good.specs.Good.{goodFlags, goodNumbers, goodSlot, goodBlock}
@@ -100,9 +102,4 @@ asked-open {b} g m h =
 -- ---- reset
 
 pub fresh-open : Open freshBlock
-unfolding freshBlock goodBlock goodFlags goodNumbers goodSlot digit
-fresh-open =
-    good-open
-    (block-facts freshBlock
-    (record { mc = lit< tt; md = lit< tt; rmp = lit< tt; lam = lit< tt; gam = lit< tt; mbrif = lit< tt; mbim = lit< tt })
-    refl)
+fresh-open = good-open fresh-block

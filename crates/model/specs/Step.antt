@@ -6,7 +6,8 @@ use lib.Dec.{eqb, ltb}
 use lib.ListN.{getD}
 use Rattle.words.specs.Word.{putWord}
 use Rattle.registers.specs.declared.Block.{Block}
-use Rattle.registers.specs.Block.{blockOf, putBlock, freshBlock, withSlot}
+use Rattle.registers.specs.Block.{blockOf, putBlock, withSlot}
+use Rattle.fresh.specs.Fresh.{freshBlock}
 use Rattle.registers.specs.Writes.{written}
 use Rattle.registers.specs.Modes.{ticked, worsened, recessive, optioned, asked, risen, settled}
 use Rattle.registers.specs.Frames.{listened, stored, replied}

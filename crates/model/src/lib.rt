@@ -142,7 +142,7 @@ fn act(image: &mut [u8], b: Block, e: Event) -> u64
         Event::Tick => plain(image, b, b.tick()),
         Event::Mode { value } => plain(image, b, b.ask(value)),
         Event::Options { value } => plain(image, b, b.with_options(value)),
-        Event::Reset => plain(image, b, Block::fresh()),
+        Event::Reset => plain(image, b, fresh::fresh_block()),
     }
 }
 

@@ -1,2 +1,3 @@
 -- Reading a register.
+pub mod Gsr
 pub mod Read

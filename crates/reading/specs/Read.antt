@@ -5,7 +5,8 @@ use mathlib.Core.List.{List}
 use lib.Dec.{eqb, leb}
 use Rattle.words.specs.Word.{wordAt}
 use Rattle.registers.specs.Block.{registersAt, blockOf}
-use Rattle.registers.specs.Status.{asleep, gsr}
+use Rattle.registers.specs.Status.{asleep}
+use Rattle.reading.specs.Gsr.{gsr}
 use Rattle.good.specs.Good.{goodImage}
 use Rattle.answers.specs.Answer.{Reading, unread}
 

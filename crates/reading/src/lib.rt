@@ -1,4 +1,6 @@
 // Reading a register.
+mod gsr;
+
 ghost use mathlib.Core.Path.{_≡_};
 ghost use mathlib.Core.Bool.{true};
 ghost use Prim.Native.Nat.{ℕ, _<_};
@@ -33,7 +35,7 @@ fn value(image: &[u8], number: u32) -> u32
         return sleeping_value(number);
     }
     if number == GSR {
-        return b.gsr();
+        return gsr::gsr(b);
     }
     words::word_at(image, registers::REGISTERS_AT + 4 * (number as usize))
 }

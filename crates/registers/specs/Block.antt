@@ -142,10 +142,3 @@ emptySlot = 31
 -- The image, word 20: the transmit error counter that means bus off.
 abbrev pub busOffAt : ℕ
 busOffAt = 256
-
--- The image, fresh: every word zero, but bit 31 of MD up, the mode configuration, no mode waiting, the slot empty.
-abbrev pub zeroBlock : Block
-zeroBlock = ofWords []
-
-unfoldable pub freshBlock : Block
-freshBlock = withSlot (withWaiting (withMode (withMd zeroBlock (mask 31)) configuration) noMode) emptySlot

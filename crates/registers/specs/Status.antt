@@ -1,10 +1,8 @@
--- What the registers say of the unit's state, and the status word GSR.
-use Prim.Native.Nat.{ℕ, _+_, _*_, _^_}
-use mathlib.Core.Bool.{Bool, not, _&&_, _||_}
-use lib.Dec.{eqb, ltb, leb}
-use Rattle.bits.specs.Bit.{flag}
+-- What the registers say of the unit's state.
+use mathlib.Core.Bool.{Bool, not, _||_}
+use lib.Dec.{eqb, ltb}
 use Rattle.registers.specs.declared.Block.{Block}
-use Rattle.registers.specs.Block.{sleep, suspend, configuration, emptySlot, busOffAt}
+use Rattle.registers.specs.Block.{sleep, emptySlot, busOffAt}
 
 -- The image, word 24: is a mailbox being sent?
 abbrev pub vacant : Block → Bool
@@ -25,16 +23,3 @@ passive b = ltb 127 (b .tec) || ltb 127 (b .rec)
 
 abbrev pub warning : Block → Bool
 warning b = ltb 96 (b .tec) || ltb 96 (b .rec)
-
--- Writing, register 32: the slot's number in bits 16 to 12, a flag for each state below, nothing else.
-unfoldable pub gsr : Block → ℕ
-gsr b =
-    b .slot * 2 ^ 12
-    + flag (filled b) 10
-    + flag (eqb (b .mode) suspend) 8
-    + flag (eqb (b .mode) configuration) 7
-    + flag (asleep b) 6
-    + flag (eqb (b .tso) 1) 3
-    + flag (busOff b) 2
-    + flag (passive b) 1
-    + flag (warning b) 0

@@ -7,7 +7,7 @@ mod writes;
 
 ghost use mathlib.Core.Path.{_≡_};
 ghost use lib.ListN.{length};
-ghost use Rattle.registers.specs.Block.{imageBytes, ofWords, toWords, blockOf, putBlock, freshBlock};
+ghost use Rattle.registers.specs.Block.{imageBytes, ofWords, toWords, blockOf, putBlock};
 
 pub const IMAGE_BYTES: usize = 640;
 
@@ -162,17 +162,5 @@ impl Block {
         ensures { λ r. ⌜ now (s .exit) ≡ putBlock (now (s .entry)) self ⌝ }
     {
         words::put_words(s, REGISTERS_AT, self.to_words())
-    }
-
-    // The block of a fresh model.
-    pub fn fresh() -> Block
-        ensures { λ r. ⌜ r ≡ freshBlock ⌝ }
-    {
-        let mut row = [0u32; 32];
-        row[1] = 0x8000_0000;
-        row[22] = 1;
-        row[23] = 4;
-        row[24] = 31;
-        Block::from_words(row)
     }
 }

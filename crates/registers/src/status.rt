@@ -1,7 +1,7 @@
-// What the registers say of the unit's state, and the status word GSR.
+// What the registers say of the unit's state.
 ghost use mathlib.Core.Path.{_≡_};
-ghost use Prim.Native.Nat.{ℕ, _<_};
-ghost use Rattle.registers.specs.Status.{vacant, filled, asleep, busOff, passive, warning, gsr as gsrOf};
+ghost use Prim.Native.Nat.{ℕ};
+ghost use Rattle.registers.specs.Status.{vacant, asleep, busOff, passive, warning};
 use crate::Block;
 
 impl Block {
@@ -34,21 +34,5 @@ impl Block {
         ensures { λ r. ⌜ r ≡ warning self ⌝ }
     {
         (96 < self.tec) | (96 < self.rec)
-    }
-
-    // Register 32, by shifts and masks.
-    pub fn gsr(self) -> u32
-        requires { ⌜ self .slot < 32 ⌝ }
-        ensures { λ r. ⌜ r ≡ gsrOf self ⌝ }
-    {
-        (self.slot << 12)
-            | bits::flag(!self.is_vacant(), 10)
-            | bits::flag(self.mode == 3, 8)
-            | bits::flag(self.mode == 1, 7)
-            | bits::flag(self.is_asleep(), 6)
-            | bits::flag(self.tso == 1, 3)
-            | bits::flag(self.is_bus_off(), 2)
-            | bits::flag(self.is_passive(), 1)
-            | bits::flag(self.is_warned(), 0)
     }
 }

@@ -5,7 +5,7 @@ use mathlib.Core.List.{[], _∷_}
 use Rattle.bits.specs.Bit.{digit}
 use Rattle.bits.specs.Below.{allBelow, countBelow, firstBelow}
 use Rattle.words.specs.Word.{wordAt, putWord, wordsOf, putWords}
-use Rattle.registers.specs.Block.{blockOf, putBlock, freshBlock}
+use Rattle.registers.specs.Block.{blockOf, putBlock}
 use Rattle.registers.specs.Writes.{requested, cancelled, released, written}
 use Rattle.registers.specs.Modes.{asked, risen, entered, settled}
 use Rattle.registers.specs.Frames.{listened, stored}
@@ -17,7 +17,7 @@ use Rattle.events.specs.Decode.{registerAllowed, decoded}
 use Rattle.filter.specs.Filter.{candidates, matches, hits, found, placed, delivery}
 use Rattle.sending.specs.Choice.{chosen, next}
 use Rattle.refusals.specs.Refusal.{remaining}
-use Rattle.fresh.specs.Fresh.{zeroImage, freshImage}
+use Rattle.fresh.specs.Fresh.{freshBlock, zeroImage, freshImage}
 use Rattle.fresh.proofs.Good.{fresh-facts}
 use Rattle.model.specs.Step.{own, goes, delivered, blockAfter, stowed, postmarked, mailboxesAfter, accepted}
 use Rattle.books.specs.Ledger.{store, acknowledge, request, cancel, send, abort, sleep, reset, now, row, after, entry, plus, book, books, empty}

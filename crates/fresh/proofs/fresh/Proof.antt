@@ -4,8 +4,8 @@ use mathlib.Core.List.{List}
 use Prim.Native.Nat.{ℕ}
 use borrow.Author.Tests.{eq-eqb, ne-eqb}
 use lib.ListN.{length}
-use Rattle.registers.specs.Block.{imageBytes, putBlock, freshBlock}
-use Rattle.fresh.specs.Fresh.{fresh, freshImage}
+use Rattle.registers.specs.Block.{imageBytes, putBlock}
+use Rattle.fresh.specs.Fresh.{freshBlock, fresh, freshImage}
 use borrow.Author.Needs.{needs}
 use Rattle.fresh.proofs.fresh.Statement.{statement}
 use Rattle.fresh.proofs.fresh.Tie as tie

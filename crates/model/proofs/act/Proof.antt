@@ -1,6 +1,7 @@
 use mathlib.Core.Path.{refl, sym, _∙_, ap}
 use Rattle.registers.specs.declared.Block.{Block}
-use Rattle.registers.specs.Block.{putBlock, freshBlock}
+use Rattle.registers.specs.Block.{putBlock}
+use Rattle.fresh.specs.Fresh.{freshBlock}
 use Rattle.registers.specs.Writes.{written}
 use Rattle.registers.specs.Modes.{risen, settled, worsened, recessive, ticked, asked, optioned}
 use Rattle.events.specs.declared.Event.the-variants.{Refused, Register, Mailbox, Heard, Start, Outcome, ReceiveError, Recessive, Tick, Mode, Options, Reset}
@@ -105,8 +106,8 @@ plain-requires-7 c κs = search needs
 enum-told-5 : tie.Need-enum-told-5
 enum-told-5 c = search needs
 
-fresh-requires : tie.Need-fresh-requires
-fresh-requires c κs = search needs
+fresh-block-requires : tie.Need-fresh-block-requires
+fresh-block-requires c κs = search needs
 
 plain-requires-8 : tie.Need-plain-requires-8
 plain-requires-8 c κs = search needs
@@ -221,7 +222,7 @@ returns-12 c =
     let s = c .before .before .before .before .before .before .before .before .args .image .now in
     let b = c .before .before .before .before .before .before .before .before .args .b in
     let l = sym (c .before .before .before .before .before .before .before .before .pre .0 .block) in
-    meets-as s b (c .before .before .before .before .before .before .before .before .pre .0 .block) (c .before .before .before .before .before .before .before .before .args .e) (Reset) (c .before .before .before .before .before .enum-told5 .given .1) (freshBlock) s 32 refl refl refl refl (c .before .before .plain8 .ensures .0 ∙ ap (λ (x : Block). putBlock s (settled (risen b x))) (c .before .before .before .fresh .ensures)) (c .before .before .plain8 .ensures .1)
+    meets-as s b (c .before .before .before .before .before .before .before .before .pre .0 .block) (c .before .before .before .before .before .before .before .before .args .e) (Reset) (c .before .before .before .before .before .enum-told5 .given .1) (freshBlock) s 32 refl refl refl refl (c .before .before .plain8 .ensures .0 ∙ ap (λ (x : Block). putBlock s (settled (risen b x))) (c .before .before .before .fresh-block .ensures)) (c .before .before .plain8 .ensures .1)
 
 pub act-spec : {M : Type 1} → statement M
 act-spec =
@@ -256,7 +257,7 @@ act-spec =
     with-options-requires
     plain-requires-7
     enum-told-5
-    fresh-requires
+    fresh-block-requires
     plain-requires-8
     same-length
     returns

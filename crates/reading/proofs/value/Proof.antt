@@ -1,8 +1,9 @@
 use mathlib.Core.Path.{sym, _∙_, ap}
 use native.Mathlib.Omega.{arith}
 use borrow.Author.Tests.{eq-eqb, ne-eqb}
-use Rattle.registers.specs.Status.{asleep, gsr}
+use Rattle.registers.specs.Status.{asleep}
 use Rattle.good.proofs.Image.{good-length, good-slot}
+use Rattle.reading.specs.Gsr.{gsr}
 use Rattle.reading.specs.Read.{value}
 use Rattle.reading.proofs.Laws.{low-number}
 use borrow.Author.Needs.{needs}

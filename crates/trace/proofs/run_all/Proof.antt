@@ -4,8 +4,8 @@ use mathlib.Core.List.{List, _++_}
 use Prim.Native.Nat.{ℕ, _+_}
 use native.Mathlib.Omega.{arith}
 use lib.ListN.{length}
-use Rattle.registers.specs.Block.{putBlock, freshBlock}
-use Rattle.fresh.specs.Fresh.{freshImage}
+use Rattle.registers.specs.Block.{putBlock}
+use Rattle.fresh.specs.Fresh.{freshBlock, freshImage}
 use Rattle.fresh.proofs.Good.{zeros}
 use Rattle.trace.specs.Trace.{countAt, endOf, section, imageAfter}
 use Rattle.trace.proofs.Writing.{as-text, both-put, room, front}

@@ -4,11 +4,12 @@ use Prim.Native.Nat.{_*_, _%_}
 use native.Mathlib.Omega.{arith}
 use Rattle.bits.specs.Bit.{flag}
 use lib.Dec.{eqb}
-use Rattle.registers.specs.Status.{gsr, filled, asleep, busOff, passive, warning}
-use Rattle.registers.proofs.Fields.{Sum, next}
+use Rattle.registers.specs.Status.{filled, asleep, busOff, passive, warning}
+use Rattle.reading.specs.Gsr.{gsr}
+use Rattle.reading.proofs.Fields.{Sum, next}
 use borrow.Author.Needs.{needs}
-use Rattle.registers.proofs.Block.gsr.Statement.{statement}
-use Rattle.registers.proofs.Block.gsr.Tie as tie
+use Rattle.reading.proofs.gsr.gsr.Statement.{statement}
+use Rattle.reading.proofs.gsr.gsr.Tie as tie
 
 is-vacant-requires : tie.Need-is-vacant-requires
 is-vacant-requires c κs = search needs
@@ -60,7 +61,7 @@ returns c =
     let k12 = k10 .before .before in
     let k14 = k12 .before .before in
     let s = k14 .before .before .before in
-    let b = s .args .self in
+    let b = s .args .b in
     let slot : Sum (b .slot * 4096 % 4294967296) (b .slot * 4096) 12 = record { same = omega (arith, s .pre); above = omega arith } in
     next 0 (warning b) 0 (c .flag8 .ensures ∙ ap (λ (t : Bool). flag t 0) (c .before .is-warned .ensures))
     (next 0 (passive b) 1 (k2 .flag7 .ensures ∙ ap (λ (t : Bool). flag t 1) (k2 .before .is-passive .ensures))
