@@ -1,6 +1,5 @@
 // What a call leaves and answers, in one number.
 ghost use mathlib.Core.Path.{_≡_};
-ghost use Prim.Native.Nat.{ℕ, _<_};
 ghost use Rattle.answers.specs.Answer.{packed, packedReading};
 
 // Refusal, mailbox and count of a fresh or a step.

@@ -1,7 +1,7 @@
 -- The bit of a word after each operation, for any word and any bit number.
 use Prim.Native.Nat.{ℕ, zero, suc, _+_, _-_, _*_, _/_, _%_, _^_, _<_, _≤_}
 use mathlib.Core.Path.{_≡_, refl, sym, _∙_, ap}
-use mathlib.Core.Bool.{Bool, true, false, not, xor, _&&_, _||_, and-true, and-false, or-true, or-false}
+use mathlib.Core.Bool.{Bool, true, false, not, xor, _&&_, _||_, or-true, or-false}
 use native.Mathlib.Decide.{ℕ-discrete}
 use native.Mathlib.Omega.{arith}
 use native.Mathlib.Nat.{pow-succ', div-eq-of-lt, lt-of-le-of-lt, lt-of-lt-of-le, pow-le-pow-right, div-add-mod', add-zero, mod-self, zero-mod}
@@ -10,7 +10,7 @@ use lib.Dec.{eqb}
 use lib.Bits.{bitAnd, bitOr, bitXor, and-shr, or-shr, xor-shr, and-mod, or-mod, xor-mod, and-le-l, and-lt, xor-lt, or-shifted}
 use lib.Pow.{shr-shr, pow-pos, pow-lt}
 use borrow.Author.Tests.{eq-eqb, ne-eqb}
-use Rattle.bits.specs.Bit.{digit, bit, mask, without, setBit, clearBit, flag}
+use Rattle.bits.specs.Bit.{digit, bit, mask, without, setBit, flag}
 
 -- ---- digits
 
@@ -123,7 +123,7 @@ bit-high n k w h l =
     let e : w / 2 ^ n ≡ 0 = div-eq-of-lt (lt-of-lt-of-le h (pow-le-pow-right (omega arith) l)) in
     rw e
 
--- ---- the same bit and another bit, after set and clear
+-- ---- the same bit and another bit, after set
 
 pub set-same : (w n : ℕ) → bit (setBit w n) n ≡ true
 set-same w n = bit-or w (mask n) n ∙ ap (λ (x : Bool). bit w n || x) (bit-mask n n ∙ eq-eqb n n refl) ∙ or-true (bit w n)
@@ -131,14 +131,6 @@ set-same w n = bit-or w (mask n) n ∙ ap (λ (x : Bool). bit w n || x) (bit-mas
 pub set-other : (w n m : ℕ) → (m ≡ n → ⊥) → bit (setBit w n) m ≡ bit w m
 set-other w n m h =
     bit-or w (mask n) m ∙ ap (λ (x : Bool). bit w m || x) (bit-mask n m ∙ ne-eqb m n h) ∙ or-false (bit w m)
-
-pub clear-same : (w n : ℕ) → bit (clearBit w n) n ≡ false
-clear-same w n =
-    bit-without w (mask n) n ∙ ap (λ (x : Bool). bit w n && not x) (bit-mask n n ∙ eq-eqb n n refl) ∙ and-false (bit w n)
-
-pub clear-other : (w n m : ℕ) → (m ≡ n → ⊥) → bit (clearBit w n) m ≡ bit w m
-clear-other w n m h =
-    bit-without w (mask n) m ∙ ap (λ (x : Bool). bit w m && not x) (bit-mask n m ∙ ne-eqb m n h) ∙ and-true (bit w m)
 
 -- ---- two words with the same bits are equal
 

@@ -5,8 +5,9 @@ use mathlib.Core.Bool.{Bool, true, false, not, xor, _&&_, _||_, false≢true}
 use native.Mathlib.Nat.{lt-of-le-of-lt}
 use native.Mathlib.Omega.{arith}
 use lib.Bits.{bitAnd, bitOr, bitXor, and-comm, and-le-l, and-le-r}
-use borrow.Author.Tests.{eq-eqb, eqb-true, eqb-false, not-true}
+use borrow.Author.Tests.{eq-eqb, ne-eqb, eqb-true, eqb-false, not-true}
 use Rattle.bits.specs.Bit.{digit, bit, mask, without}
+use Rattle.bits.specs.Tests.{gapDown}
 use Rattle.bits.proofs.Laws.{bit-and, bit-or, bit-xor, bit-without, bit-zero, bit-mask, same-bits}
 
 -- ---- tests that hold
@@ -113,9 +114,6 @@ within-without {a} {b} c w =
           ∙ both (bit b n) (not (bit c n)) (w .has n (and-l (bit a n) (not (bit c n)) q)) (and-r (bit a n) (not (bit c n)) q);
     }
 
-pub within-more : {a b : ℕ} (c : ℕ) → Within a b → Within (bitOr a c) (bitOr b c)
-within-more {a} {b} c w = within-or (within-trans w (or-within-l b c)) (or-within-r b c)
-
 pub within-mask : (n b : ℕ) → bit b n ≡ true → Within (mask n) b
 within-mask n b h =
     record { has = λ m p. ap (bit b) (eqb-true m n (sym (bit-mask n m) ∙ p)) ∙ h }
@@ -174,6 +172,13 @@ top-up a h l = eq-eqb (a / 2 ^ 31 % 2) 1 (omega arith)
 pub top-down : (a : ℕ) → a < 2 ^ 32 → bit a 31 ≡ false → a < 2 ^ 31
 unfolding digit
 top-down a h p = let n = eqb-false (a / 2 ^ 31 % 2) 1 p in omega arith
+
+-- bits 30 and 29, asked as a remainder
+pub gap-bits : (a : ℕ) → gapDown a ≡ true → (bit a 30 ≡ false) × (bit a 29 ≡ false)
+unfolding digit
+gap-bits a h =
+    let z = eqb-true (a / 2 ^ 29 % 4) 0 h in
+    (ne-eqb (a / 2 ^ 30 % 2) 1 (λ e. omega arith), ne-eqb (a / 2 ^ 29 % 2) 1 (λ e. omega arith))
 
 -- a word that shares no bit with one whose bit 31 is up
 pub apart-top : {a b : ℕ} → Apart a b → a < 2 ^ 32 → b < 2 ^ 32 → 2 ^ 31 ≤ b → a < 2 ^ 31

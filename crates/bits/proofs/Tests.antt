@@ -1,7 +1,7 @@
 -- Lists of tests: all hold, one follows from another, the first that holds.
 use Prim.Native.Nat.{ℕ, zero, suc, _+_, _<_}
-use mathlib.Core.Path.{_≡_, refl, _∙_}
-use mathlib.Core.Bool.{Bool, true, false, _&&_, false≢true}
+use mathlib.Core.Path.{_≡_, refl, sym, _∙_}
+use mathlib.Core.Bool.{Bool, true, false, _&&_, _||_, false≢true}
 use mathlib.Core.List.{List, [], _∷_}
 use native.Mathlib.Omega.{arith}
 use lib.ListN.{getD}
@@ -33,6 +33,10 @@ given false b h p = absurd (false≢true p)
 pub implied : (a b : Bool) → (a ≡ true → b ≡ true) → implies a b ≡ true
 implied true b h = h refl
 implied false b h = refl
+
+pub neither : (a b : Bool) → (a || b) ≡ false → (a ≡ false) × (b ≡ false)
+neither true b h = absurd (false≢true (sym h))
+neither false b h = (refl, h)
 
 -- ---- the first test of a list that holds
 

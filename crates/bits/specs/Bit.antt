@@ -23,9 +23,6 @@ without w v = bitXor w (bitAnd w v)
 abbrev pub setBit : ℕ → ℕ → ℕ
 setBit w n = bitOr w (mask n)
 
-abbrev pub clearBit : ℕ → ℕ → ℕ
-clearBit w n = without w (mask n)
-
 -- Bit n where t holds, no bit where it does not.
 abbrev pub flag : Bool → ℕ → ℕ
 flag t n = cond t (mask n) 0

@@ -1,7 +1,7 @@
 // Flag words: one bit for each mailbox. Everything here is said for any bit number.
 ghost use mathlib.Core.Path.{_≡_};
-ghost use Prim.Native.Nat.{ℕ, _<_};
-ghost use Rattle.bits.specs.Bit.{bit, mask as maskOf, setBit, clearBit, without as withoutOf, flag as flagOf};
+ghost use Prim.Native.Nat.{_<_};
+ghost use Rattle.bits.specs.Bit.{bit, mask as maskOf, setBit, without as withoutOf, flag as flagOf};
 ghost use mathlib.Core.Bool.{cond};
 
 // The word whose only bit is n.
@@ -33,14 +33,6 @@ pub fn set(w: u32, n: u32) -> u32
     ensures { λ r. ⌜ r ≡ setBit w n ⌝ }
 {
     w | mask(n)
-}
-
-// w with bit n down.
-pub fn clear(w: u32, n: u32) -> u32
-    requires { ⌜ n < 32 ⌝ }
-    ensures { λ r. ⌜ r ≡ clearBit w n ⌝ }
-{
-    without(w, mask(n))
 }
 
 // Bit n where t holds, no bit where it does not.

@@ -2,10 +2,10 @@
 use Prim.Native.Nat.{ℕ, _<_}
 use mathlib.Core.Path.{_≡_, refl, sym, _∙_, ap, subst}
 use mathlib.Core.List.{List, [], _∷_}
-use lib.ListN.{length, length-replicate}
 use Rattle.bits.proofs.Laws.{bit-zero}
-use Rattle.registers.specs.Block.{imageBytes, blockOf}
+use Rattle.registers.specs.Block.{blockOf}
 use Rattle.fresh.specs.Fresh.{freshBlock, zeroImage, freshImage}
+use Rattle.fresh.proofs.Good.{zero-length}
 use Rattle.model.specs.Step.{step}
 use Rattle.books.specs.Ledger.{Now, now, afters, empty}
 use Rattle.books.specs.Happen.{happenings, run, history, left, booked, Demand3, flags, EachStep}
@@ -27,10 +27,6 @@ run-follows m s (e ∷ l) h =
     (run-follows m (step s e .image) l h)
 
 -- a fresh image has none of the flags
-zero-length : length zeroImage ≡ imageBytes
-unfolding zeroImage
-zero-length = length-replicate {A = ℕ} imageBytes 0
-
 begin : (m : ℕ) → m < 32 → flags m freshImage ≡ empty .now
 unfolding freshImage freshBlock
 begin m h = look-back m zeroImage freshBlock h zero-length ∙ (λ i. now (bit-zero m i) (bit-zero m i) (bit-zero m i))

@@ -1,24 +1,22 @@
 -- Demand 2: an accepted step leaves a good image.
-use Prim.Native.Nat.{ℕ, zero, suc, _+_, _*_, _^_, _<_, _≤_}
+use Prim.Native.Nat.{ℕ, zero, suc, _*_, _<_, _≤_}
 use mathlib.Core.Path.{_≡_, refl, sym, _∙_, ap}
-use mathlib.Core.Bool.{Bool, true, false, cond, not, _&&_, false≢true}
+use mathlib.Core.Bool.{Bool, true, false, cond, not, false≢true}
 use mathlib.Core.List.{List}
-use mathlib.Core.Logic.{_≢_, _⊎_, inl, inr}
+use mathlib.Core.Logic.{_≢_}
 use native.Mathlib.Omega.{arith}
-use lib.Dec.{eqb, ltb, lit≤}
+use lib.Dec.{eqb, ltb}
 use lib.ListN.{length}
 use borrow.Author.Tests.{eqb-true, eqb-false, eq-eqb, ltb-true, not-false}
-use Rattle.bits.specs.Bit.{bit}
 use Rattle.words.specs.Word.{putWord}
 use Rattle.words.proofs.Laws.{length-put}
 use Rattle.words.proofs.Bytes.{Bytes, bytes-put}
-use Rattle.registers.specs.declared.Block.{Block}
-use Rattle.registers.specs.Block.{imageBytes, blockOf, putBlock, sleep, emptySlot}
+use Rattle.registers.specs.Block.{blockOf, sleep, emptySlot}
 use Rattle.registers.specs.Status.{vacant, asleep}
 use Rattle.registers.specs.Modes.{onBus}
 use Rattle.registers.specs.Frames.{listened}
 use Rattle.registers.specs.Sending.{started}
-use Rattle.mailboxes.specs.Mailbox.{mailboxes, mailbox, withMailbox, longest, layout}
+use Rattle.mailboxes.specs.Mailbox.{mailboxes, mailbox, withMailbox, layout}
 use Rattle.mailboxes.specs.Filing.{filed, stamped}
 use Rattle.mailboxes.proofs.Laws.{length-mailbox, bytes-mailbox}
 use Rattle.mailboxes.proofs.Filed.{length-filed, bytes-filed, filed-layout, layout-alone, written-layout, length-stamped, bytes-stamped, stamped-layout}
@@ -36,16 +34,16 @@ use Rattle.sending.specs.Choice.{next}
 use Rattle.sending.proofs.Choice.{next-is, next-off}
 use Rattle.good.specs.Good.{goodImage}
 use Rattle.good.proofs.Facts.{GoodBlock}
-use Rattle.good.proofs.Image.{GoodImage, image-facts, image-good, mailbox-kept, block-kept}
+use Rattle.good.proofs.Image.{GoodImage, image-facts, mailbox-kept, block-kept}
 use Rattle.keeps.proofs.Open.{Open, good-open, risen-open, settled-good}
 use Rattle.keeps.proofs.Writes.{written-open}
 use Rattle.keeps.proofs.Modes.{ticked-open, recessive-open, optioned-open, worsened-open, asked-open, fresh-open}
 use Rattle.keeps.proofs.Frames.{listened-open, listened-awake, stored-open, replied-open}
 use Rattle.keeps.proofs.Sending.{started-open, sent-open, failed-open}
-use Rattle.refusals.specs.Refusal.{refusal, remaining, registerBusy, registerLocked}
+use Rattle.refusals.specs.Refusal.{refusal, remaining}
 use Rattle.refusals.proofs.Order.{refusal-good}
 use Rattle.answers.specs.Answer.{noMailbox, refused}
-use Rattle.model.specs.Step.{own, goes, remote, delivered, acted, blockAfter, startedWith, concluded, stowed, postmarked, rewritten, mailboxesAfter, accepted, step}
+use Rattle.model.specs.Step.{own, goes, delivered, acted, blockAfter, startedWith, concluded, stowed, postmarked, rewritten, mailboxesAfter, accepted, step}
 use Rattle.model.proofs.Whole.{unrefused, real}
 
 -- ---- what an event that is not refused tells
@@ -111,7 +109,7 @@ module _ (s : List ℕ) where
   acted-open (Options v) t = optioned-open (t .good .block) v (t .fair)
   acted-open Reset t = fresh-open
 
-  block-after : (v : Event) → Taken s v → GoodBlock (blockAfter s v)
+  pub block-after : (v : Event) → Taken s v → GoodBlock (blockAfter s v)
   unfolding blockAfter
   block-after v t = settled-good _ (risen-open (blockOf s) (acted-open v t))
 
@@ -152,7 +150,7 @@ module _ (s : List ℕ) where
       replaced n (stamped m (blockOf s .tsc)) h g (length-stamped m (blockOf s .tsc)) (bytes-stamped m (blockOf s .tsc) (bytes-mailbox s n (g .bytes)))
       (stamped-layout m (blockOf s .tsc) (own-length n h g) (r .tsc) (own-layout n h g))
 
-  boxes-after : (v : Event) → Taken s v → GoodImage (mailboxesAfter s v)
+  pub boxes-after : (v : Event) → Taken s v → GoodImage (mailboxesAfter s v)
   unfolding mailboxesAfter rewritten
   boxes-after (Refused r) t = t .good
   boxes-after (Register r v) t = t .good

@@ -1,3 +1,4 @@
 -- Demand 2 over the whole step.
 pub mod Kept
-pub mod Stays
+mod Stays
+pub mod Demand2

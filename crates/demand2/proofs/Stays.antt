@@ -1,12 +1,12 @@
 -- Demand 2: what an accepted event may not change, it does not.
 use Prim.Native.Nat.{ℕ, zero, suc, _+_, _*_, _<_, _≤_}
-use mathlib.Core.Path.{_≡_, refl, sym, _∙_, ap}
-use mathlib.Core.Bool.{Bool, true, false, cond, _&&_, _||_, false≢true}
+use mathlib.Core.Path.{_≡_, refl, _∙_}
+use mathlib.Core.Bool.{Bool, true, false, cond, _&&_, _||_}
 use mathlib.Core.List.{List, [], _∷_}
-use mathlib.Core.Logic.{_⊎_, inl, inr}
 use native.Mathlib.Omega.{arith}
 use lib.Dec.{eqb, ltb}
 use lib.ListN.{getD, length}
+use Rattle.bits.proofs.Tests.{neither}
 use Rattle.words.specs.Word.{putWord}
 use Rattle.words.proofs.Laws.{length-put}
 use Rattle.registers.specs.declared.Block.{Block}
@@ -29,17 +29,13 @@ use Rattle.filter.specs.Filter.{delivery}
 use Rattle.filter.proofs.Ways.{into}
 use Rattle.sending.specs.Choice.{next}
 use Rattle.answers.specs.Answer.{noMailbox}
-use Rattle.keeps.specs.Touch.{touches, among}
+use Rattle.keeps.specs.Touch.{among}
 use Rattle.keeps.proofs.Frame.{patched, unpatched, written-stays}
-use Rattle.model.specs.Step.{own, goes, remote, delivered, acted, blockAfter, startedWith, concluded, stowed, postmarked, rewritten, mailboxesAfter, accepted}
-use Rattle.demand2.specs.Touched.{storedIn, openedBy, changes, taking, mayChange}
+use Rattle.model.specs.Step.{own, goes, delivered, acted, blockAfter, startedWith, concluded, stowed, postmarked, rewritten, mailboxesAfter, accepted}
+use Rattle.demand2.specs.Touched.{Outside, storedIn, openedBy, changes, taking, mayChange}
 use Rattle.demand2.proofs.Kept.{Taken}
 
 -- ---- the bytes of the mailboxes
-
--- a byte that lies outside mailbox n
-abbrev pub Outside : ℕ → ℕ → Type 0
-Outside n i = (i < 16 * n) ⊎ (16 * n + 16 ≤ i)
 
 module _ (s : List ℕ) (i : ℕ) (low : i < registersAt) where
   replaced : (n : ℕ) (m : List ℕ) → length s ≡ 640 → n < 32 → length m ≡ length (mailbox s n) → Outside n i
@@ -84,14 +80,6 @@ module _ (s : List ℕ) (i : ℕ) (low : i < registersAt) where
   mailboxes-stay v t o = byte-stays (mailboxesAfter s v) (blockAfter s v) i low ∙ boxes-stay v t o
 
 -- ---- the register words
-
-or-l : (a b : Bool) → (a || b) ≡ false → a ≡ false
-or-l true b h = h
-or-l false b h = refl
-
-or-r : (a b : Bool) → (a || b) ≡ false → b ≡ false
-or-r true b h = absurd (false≢true (sym h))
-or-r false b h = h
 
 abbrev Same : List ℕ → Block → Block → Type 0
 Same l x y = toWords x ≡ patched (λ k. among k l) (toWords x) (toWords y)
@@ -156,7 +144,8 @@ pub registers-stay : (s : List ℕ) (v : Event) (k : ℕ) → mayChange s v k �
     → getD (toWords (blockAfter s v)) k 0 ≡ getD (toWords (blockOf s)) k 0
 unfolding blockAfter risen
 registers-stay s v k h =
-    let first = or-l (among k (changes v) || eqb k 15) (ready (acted s v) && among k taking) h in
-    settled-stays k (risen (blockOf s) (acted s v)) (or-r (among k (changes v) || eqb k 15) (ready (acted s v) && among k taking) h)
-    ∙ risen-stays k (acted s v) (blockOf s) (or-r (among k (changes v)) (eqb k 15) first)
-    ∙ acted-stays s k v (or-l (among k (changes v)) (eqb k 15) first)
+    let last = neither (among k (changes v) || eqb k 15) (ready (acted s v) && among k taking) h in
+    let first = neither (among k (changes v)) (eqb k 15) (last .0) in
+    settled-stays k (risen (blockOf s) (acted s v)) (last .1)
+    ∙ risen-stays k (acted s v) (blockOf s) (first .1)
+    ∙ acted-stays s k v (first .0)

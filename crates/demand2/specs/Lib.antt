@@ -1,3 +1,4 @@
--- What a step may change, and the marked numbers.
+-- What a step may change, what it leaves, and the marked numbers.
 pub mod Touched
+pub mod Demand2
 pub mod Marked

@@ -1,7 +1,8 @@
 -- What an accepted event may change: which mailbox's bytes, and which register words. All else stays.
-use Prim.Native.Nat.{ℕ}
+use Prim.Native.Nat.{ℕ, _+_, _*_, _<_, _≤_}
 use mathlib.Core.Bool.{Bool, cond, _&&_, _||_}
 use mathlib.Core.List.{List, [], _∷_}
+use mathlib.Core.Logic.{_⊎_}
 use lib.Dec.{eqb}
 use lib.ListN.{getD}
 use Rattle.registers.specs.Block.{blockOf}
@@ -14,6 +15,10 @@ use Rattle.filter.specs.Filter.{delivery}
 use Rattle.answers.specs.Answer.{noMailbox}
 use Rattle.keeps.specs.Touch.{touched, among}
 use Rattle.model.specs.Step.{acted}
+
+-- The image: byte i is none of mailbox n's 16.
+abbrev pub Outside : ℕ → ℕ → Type 0
+Outside n i = (i < 16 * n) ⊎ (16 * n + 16 ≤ i)
 
 -- Receiving: the mailbox that a frame is stored in, 32 for none.
 abbrev pub storedIn : Delivery → ℕ

@@ -1,7 +1,7 @@
 -- Refusals 2, 3 and 4: which one an event gets, exactly, and that an event that gets none is a real event.
 use Prim.Native.Nat.{ℕ, _<_, _≤_}
 use mathlib.Core.Path.{_≡_, refl, sym, _∙_, ap, subst}
-use mathlib.Core.Bool.{Bool, true, false, not, _&&_, _||_, false≢true}
+use mathlib.Core.Bool.{Bool, true, false, not, _&&_, false≢true}
 use mathlib.Core.List.{List}
 use mathlib.Core.Logic.{_⊎_, inl, inr}
 use native.Mathlib.Decide.{decLt}
@@ -9,6 +9,7 @@ use native.Mathlib.Omega.{arith}
 use lib.Dec.{eqb}
 use lib.ListN.{length, List·getD-eq-default}
 use borrow.Author.Tests.{eqb-true, ne-eqb, not-false}
+use Rattle.bits.proofs.Tests.{neither}
 use Rattle.bits.specs.Below.{allBelow}
 use Rattle.bits.proofs.Below.{each-below}
 use Rattle.events.specs.declared.Event.{Event}
@@ -37,10 +38,6 @@ module _ (a : Bool) (e : List ℕ) where
   decoded-event u w d = rw (u, w, d)
 
 -- ---- what is known of an event that refusal 2 does not meet
-
-neither : (a b : Bool) → (a || b) ≡ false → (a ≡ false) × (b ≡ false)
-neither true b h = absurd (false≢true (sym h))
-neither false b h = (refl, h)
 
 -- a known operation is one of the table's
 pub known-below : (e : List ℕ) (k : ℕ) → knownAs k e ≡ true → k < operations
@@ -141,9 +138,6 @@ pub record Accepted (a : Bool) (e : List ℕ) (v : Event) : Type 0 where
   pub awake : (wakeful e && a) ≡ false
   pub fair : disallowed e ≡ false
   pub same : v ≡ event e
-
-pub accepted-given : (a : Bool) (e : List ℕ) (v : Event) → Accepted a e v → decoded a e ≡ v
-accepted-given a e v x = decoded-event a e (x .known) (x .awake) (x .fair) ∙ sym (x .same)
 
 pub accepted : (a : Bool) (e : List ℕ) (v : Event) → decoded a e ≡ v → isRefused v ≡ false → Accepted a e v
 accepted a e v h n = at (unknown e) (wakeful e && a) (disallowed e) refl refl refl

@@ -1,6 +1,5 @@
 // Frame events.
 ghost use mathlib.Core.Path.{_≡_};
-ghost use mathlib.Core.Bool.{Bool};
 ghost use lib.ListN.{length};
 ghost use Rattle.events.specs.Parts.{eventBytes, frameOf, frameAllowed};
 ghost use Rattle.events.specs.Decode.{decodedAs};

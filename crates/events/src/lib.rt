@@ -4,7 +4,7 @@ mod parts;
 mod writes;
 
 ghost use mathlib.Core.Path.{_≡_};
-ghost use mathlib.Core.Bool.{Bool, false, cond};
+ghost use mathlib.Core.Bool.{false, cond};
 ghost use lib.ListN.{length};
 ghost use Rattle.events.specs.Parts.{eventBytes, quiet as quietOf};
 ghost use Rattle.events.specs.Decode.{decodedAs, decoded};

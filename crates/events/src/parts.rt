@@ -1,7 +1,6 @@
 // The 16 bytes of an event.
 ghost use mathlib.Core.Path.{_≡_};
-ghost use mathlib.Core.Bool.{Bool};
-ghost use Prim.Native.Nat.{ℕ, _≤_};
+ghost use Prim.Native.Nat.{_≤_};
 ghost use lib.ListN.{length};
 ghost use Rattle.events.specs.Parts.{eventBytes, target as targetOf, value as valueOf, payload as payloadOf, quiet as quietOf};
 

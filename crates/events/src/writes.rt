@@ -1,6 +1,5 @@
 // The events that are refused asleep: register writes, mailbox writes, options.
 ghost use mathlib.Core.Path.{_≡_};
-ghost use mathlib.Core.Bool.{Bool};
 ghost use lib.ListN.{length};
 ghost use Rattle.events.specs.Parts.{eventBytes};
 ghost use Rattle.events.specs.Decode.{writable, registerAllowed, decodedAs};

@@ -12,7 +12,7 @@ use borrow.Author.Tests.{eqb-true, eq-eqb, ne-eqb, lt-ltb, le-ltb, ltb-true, ltb
 use Rattle.bits.specs.Bit.{digit, bit, without, flag}
 use Rattle.bits.specs.Below.{allBelow}
 use Rattle.bits.proofs.Laws.{bit-and, bit-or, bit-xor, bit-without, bit-zero, bit-high, bit-flag, same-bits, same-below, or-below, flag-above}
-use Rattle.bits.proofs.Sets.{both, and-l, and-r}
+use Rattle.bits.proofs.Sets.{and-l, and-r}
 use Rattle.bits.proofs.Below.{each-below}
 use Rattle.registers.specs.declared.Block.{Block}
 use Rattle.mailboxes.specs.Mailbox.{ide, maskable, identifier}

@@ -1,7 +1,6 @@
 // Filtering: which mailbox a frame goes to.
 ghost use mathlib.Core.Path.{_≡_};
-ghost use mathlib.Core.Bool.{Bool};
-ghost use Prim.Native.Nat.{ℕ, _<_};
+ghost use Prim.Native.Nat.{_<_};
 ghost use lib.ListN.{length};
 ghost use Rattle.registers.specs.Block.{imageBytes, blockOf};
 ghost use Rattle.filter.specs.Filter.{candidates as candidatesOf, compared as comparedOf, frameWord, freed as freedOf, matches as matchesOf, found, placed, delivery};

@@ -22,7 +22,7 @@ zero-image-byte : (i : ℕ) → _≡_ {A = ℕ} (getD zeroImage i 0) 0
 unfolding zeroImage
 zero-image-byte i = zero-byte imageBytes i
 
-zero-length : length zeroImage ≡ imageBytes
+pub zero-length : length zeroImage ≡ imageBytes
 unfolding zeroImage
 zero-length = length-replicate {A = ℕ} imageBytes 0
 

@@ -1,9 +1,8 @@
 -- What makes an image good: one named clause for each thing that document 01 asks under "The image", in its order.
-use Prim.Native.Nat.{ℕ, _+_, _*_, _/_, _%_, _^_}
-use mathlib.Core.Bool.{Bool, true, not, _&&_, _||_}
+use Prim.Native.Nat.{ℕ, _+_, _*_}
+use mathlib.Core.Bool.{Bool, not, _&&_, _||_}
 use mathlib.Core.List.{List, [], _∷_}
 use lib.Dec.{eqb, ltb, leb}
-use lib.Bits.{bitAnd}
 use lib.ListN.{length}
 use Rattle.bits.specs.Bit.{bit, mask}
 use Rattle.bits.specs.Below.{allBelow}

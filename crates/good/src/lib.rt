@@ -1,6 +1,6 @@
 // Is an image good?
 ghost use mathlib.Core.Path.{_≡_};
-ghost use Prim.Native.Nat.{ℕ, _<_};
+ghost use Prim.Native.Nat.{_<_};
 ghost use lib.ListN.{length};
 ghost use Rattle.registers.specs.Block.{imageBytes};
 ghost use Rattle.good.specs.Good.{goodFlags, goodNumbers, goodSlot, goodBlock, goodLayouts, goodSpare, goodImage};

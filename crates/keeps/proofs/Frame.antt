@@ -1,9 +1,10 @@
 -- A register write leaves alone what it may not touch: all words and all registers in one statement.
 use Prim.Native.Nat.{ℕ, zero, suc}
-use mathlib.Core.Path.{_≡_, refl, sym, _∙_, ap, ap₂}
-use mathlib.Core.Bool.{Bool, true, false, cond, _||_, false≢true}
+use mathlib.Core.Path.{_≡_, refl, _∙_, ap, ap₂}
+use mathlib.Core.Bool.{Bool, false, cond}
 use mathlib.Core.List.{List, [], _∷_}
 use lib.ListN.{getD, drop}
+use Rattle.bits.proofs.Tests.{neither}
 use Rattle.registers.specs.declared.Block.{Block}
 use Rattle.registers.specs.Block.{toWords}
 use Rattle.registers.specs.Writes.{requested, cancelled, released, noted, writes, written}
@@ -40,18 +41,10 @@ written-stays b t v = unpatched (touches t) (toWords (written b t v)) (toWords b
 
 -- ---- words that no write touches
 
-or-false-l : (a c : Bool) → (a || c) ≡ false → a ≡ false
-or-false-l true c e = e
-or-false-l false c e = refl
-
-or-false-r : (a c : Bool) → (a || c) ≡ false → c ≡ false
-or-false-r true c e = absurd (false≢true (sym e))
-or-false-r false c e = e
-
 never-among : (k : ℕ) (m : List (List ℕ)) → amongAny k m ≡ false → (t : ℕ) → among k (getD m t []) ≡ false
 never-among k [] e t = refl
-never-among k (l ∷ m) e zero = or-false-l (among k l) (amongAny k m) e
-never-among k (l ∷ m) e (suc t) = never-among k m (or-false-r (among k l) (amongAny k m) e) t
+never-among k (l ∷ m) e zero = neither (among k l) (amongAny k m) e .0
+never-among k (l ∷ m) e (suc t) = never-among k m (neither (among k l) (amongAny k m) e .1) t
 
 -- the counters, the mode, the waiting mode, the slot, the recovery count, the options
 pub state-stays : (b : Block) (t v k : ℕ) → anyTouches k ≡ false → getD (toWords (written b t v)) k 0 ≡ getD (toWords b) k 0

@@ -7,7 +7,6 @@ use native.Mathlib.Decide.{ℕ-discrete}
 use native.Mathlib.Omega.{arith}
 use lib.Dec.{eqb, ltb, lit<, lit≤}
 use borrow.Author.Tests.{eqb-true, eqb-false, ltb-true, ltb-false}
-use Rattle.bits.specs.Bit.{digit}
 use Rattle.bits.proofs.Sets.{and-l, and-r}
 use Rattle.registers.specs.declared.Block.{Block}
 use Rattle.registers.specs.Block.{withRec, normal, emptySlot, busOffAt}
@@ -15,8 +14,7 @@ use Rattle.fresh.specs.Fresh.{freshBlock}
 use Rattle.fresh.proofs.Good.{fresh-block}
 use Rattle.registers.specs.Status.{asleep, busOff}
 use Rattle.registers.specs.Modes.{atMost, onBus, overflows, ticked, worsened, recessive, optioned, asked}
-use Rattle.good.specs.Good.{goodFlags, goodNumbers, goodSlot, goodBlock}
-use Rattle.good.proofs.Facts.{Core, GoodBlock, block-facts}
+use Rattle.good.proofs.Facts.{Core, GoodBlock}
 use Rattle.keeps.proofs.Words.{either, gif-lt}
 use Rattle.keeps.proofs.Keep.{keep-gif, keep-tsc, keep-tec, keep-rec, keep-waiting, keep-recovery, keep-options, keep-tso}
 use Rattle.keeps.proofs.Open.{Open, still-open, good-open}

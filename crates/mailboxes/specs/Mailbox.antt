@@ -7,12 +7,9 @@ use lib.ListN.{take, drop}
 use Rattle.bits.specs.Bit.{bit}
 use Rattle.words.specs.Word.{wordAt}
 
--- The image: how many mailboxes there are and how long each is.
+-- The image: how many mailboxes there are.
 abbrev pub mailboxes : ℕ
 mailboxes = 32
-
-abbrev pub mailboxBytes : ℕ
-mailboxBytes = 16
 
 -- The image: mailbox n is 16 bytes of its own, n times 16 bytes in.
 unfoldable pub mailbox : List ℕ → ℕ → List ℕ

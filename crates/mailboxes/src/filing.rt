@@ -1,10 +1,9 @@
 // The small writers: what storing a frame and sending one write into a lent mailbox.
 ghost use mathlib.Core.Path.{_≡_};
-ghost use mathlib.Core.Bool.{Bool};
-ghost use Prim.Native.Nat.{ℕ, _+_, _*_, _^_, _<_, _≤_};
+ghost use Prim.Native.Nat.{_+_, _*_, _^_, _<_, _≤_};
 ghost use lib.ListN.{length};
 ghost use Rattle.mailboxes.specs.Mailbox.{mailbox, withMailbox};
-ghost use Rattle.mailboxes.specs.Filing.{dataBytes, filedIdentifier, filedControl, dataOf, spliced as splicedOf, withData, filed, stampedControl, stamped};
+ghost use Rattle.mailboxes.specs.Filing.{dataBytes, filedIdentifier, filedControl, dataOf, spliced as splicedOf, withData, filed, stamped};
 use crate::Identifier;
 
 // How many data bytes a frame brings.

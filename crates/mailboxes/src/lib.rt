@@ -8,7 +8,7 @@ pub use filing::put_stamp;
 pub use keys::identifier_of;
 pub use keys::key_of;
 ghost use mathlib.Core.Path.{_≡_};
-ghost use Prim.Native.Nat.{ℕ, _+_, _*_, _<_, _≤_};
+ghost use Prim.Native.Nat.{_+_, _*_, _<_, _≤_};
 ghost use lib.ListN.{length};
 ghost use Rattle.words.specs.Word.{putWord};
 ghost use Rattle.mailboxes.specs.Mailbox.{mailboxWord, mailbox, withMailbox, wordLayout, layout as layoutOf};

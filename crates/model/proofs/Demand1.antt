@@ -1,8 +1,8 @@
 -- Demand 1: any image and any event are answered; a refusal is the first that applies, names no mailbox, counts nothing and
 -- leaves every byte.
-use Prim.Native.Nat.{ℕ, suc, _+_, _<_}
-use mathlib.Core.Path.{_≡_, refl, sym, _∙_, ap}
-use mathlib.Core.Bool.{Bool, true, false}
+use Prim.Native.Nat.{ℕ, suc, _<_}
+use mathlib.Core.Path.{_≡_, _∙_}
+use mathlib.Core.Bool.{true, false}
 use mathlib.Core.List.{List}
 use native.Mathlib.Omega.{arith}
 use native.Mathlib.Numerals.{one-add}
@@ -11,7 +11,7 @@ use borrow.Author.Tests.{eq-eqb, ne-eqb}
 use Rattle.bits.proofs.Tests.{first-at, first-none}
 use Rattle.events.specs.Decode.{event}
 use Rattle.refusals.specs.Refusal.{reasons, refusal}
-use Rattle.answers.specs.Answer.{Outcome, refused}
+use Rattle.answers.specs.Answer.{refused}
 use Rattle.model.specs.Step.{accepted, step}
 
 module _ (s e : List ℕ) where

@@ -1,12 +1,12 @@
 -- One step: what an accepted event does to the registers, to the bytes of a mailbox, and what it answers.
 use Prim.Native.Nat.{ℕ, _*_}
-use mathlib.Core.Bool.{Bool, true, false, cond}
+use mathlib.Core.Bool.{Bool, false, cond}
 use mathlib.Core.List.{List, [], _∷_}
 use lib.Dec.{eqb, ltb}
 use lib.ListN.{getD}
 use Rattle.words.specs.Word.{putWord}
 use Rattle.registers.specs.declared.Block.{Block}
-use Rattle.registers.specs.Block.{blockOf, putBlock, withSlot}
+use Rattle.registers.specs.Block.{blockOf, putBlock}
 use Rattle.fresh.specs.Fresh.{freshBlock}
 use Rattle.registers.specs.Writes.{written}
 use Rattle.registers.specs.Modes.{ticked, worsened, recessive, optioned, asked, risen, settled}

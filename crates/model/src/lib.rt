@@ -2,14 +2,14 @@
 ghost use mathlib.Core.Path.{_≡_};
 ghost use mathlib.Core.Bool.{cond};
 ghost use lib.Dec.{eqb};
-ghost use Prim.Native.Nat.{ℕ, _<_, _≤_};
+ghost use Prim.Native.Nat.{_<_, _≤_};
 ghost use lib.ListN.{length};
 ghost use Rattle.registers.specs.Block.{imageBytes, putBlock};
 ghost use Rattle.registers.specs.Modes.{risen, settled};
 ghost use Rattle.events.specs.declared.Event.the-variants.{Mailbox, Heard, Start, Outcome};
 ghost use Rattle.filter.specs.declared.Delivery.the-variants.{Into};
 ghost use Rattle.answers.specs.Answer.{Promise, packed, noMailbox};
-ghost use Rattle.model.specs.Step.{startedWith, concluded as concludedOf, postmarked, rewritten, deliveredOutcome, accepted, step as stepOf};
+ghost use Rattle.model.specs.Step.{startedWith, concluded as concludedOf, postmarked, deliveredOutcome, accepted, step as stepOf};
 ghost use Rattle.model.specs.Ready.{Loaded, Sized, Fit};
 use events::Event;
 use events::Frame;

@@ -1,6 +1,6 @@
 // The status word GSR.
 ghost use mathlib.Core.Path.{_≡_};
-ghost use Prim.Native.Nat.{ℕ, _<_};
+ghost use Prim.Native.Nat.{_<_};
 ghost use Rattle.reading.specs.Gsr.{gsr as gsrOf};
 use registers::Block;
 

@@ -3,7 +3,7 @@ mod gsr;
 
 ghost use mathlib.Core.Path.{_≡_};
 ghost use mathlib.Core.Bool.{true};
-ghost use Prim.Native.Nat.{ℕ, _<_};
+ghost use Prim.Native.Nat.{_<_};
 ghost use Rattle.good.specs.Good.{goodImage};
 ghost use Rattle.answers.specs.Answer.{ReadPromise};
 ghost use Rattle.reading.specs.Read.{readable, sleepingValue, value as valueOf, read as readOf};

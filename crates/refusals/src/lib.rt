@@ -1,8 +1,7 @@
 // Refusals 5, 6 and 7, once the image is good and the event is decoded.
 ghost use mathlib.Core.Path.{_≡_};
-ghost use mathlib.Core.Bool.{Bool, cond, true};
 ghost use mathlib.Core.List.{[], _∷_};
-ghost use Prim.Native.Nat.{ℕ, _<_, _≤_};
+ghost use Prim.Native.Nat.{_<_};
 ghost use lib.ListN.{length};
 ghost use Rattle.bits.specs.Tests.{firstFrom};
 ghost use Rattle.registers.specs.Block.{imageBytes, blockOf};

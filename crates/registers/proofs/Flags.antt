@@ -7,7 +7,7 @@ use lib.Bits.{bitAnd, bitOr}
 use Rattle.bits.specs.Bit.{bit, mask, without, flag}
 use Rattle.bits.proofs.Laws.{bit-and, bit-or, bit-without, bit-mask, bit-flag, bit-zero}
 use Rattle.registers.specs.declared.Block.{Block}
-use Rattle.registers.specs.Status.{filled, asleep}
+use Rattle.registers.specs.Status.{filled}
 use Rattle.registers.specs.Writes.{slotMask, ending, late, requested, cancelled, released, noted, written}
 use Rattle.registers.specs.Modes.{ticked, overflows, entered, fallsAsleep}
 use Rattle.registers.specs.Frames.{listened, wakened, stored, replied}

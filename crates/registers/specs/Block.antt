@@ -1,8 +1,7 @@
 -- The register block, and where it stands in the image.
-use Prim.Native.Nat.{ℕ, _^_}
+use Prim.Native.Nat.{ℕ}
 use mathlib.Core.List.{List, [], _∷_}
 use lib.ListN.{getD, set}
-use Rattle.bits.specs.Bit.{mask}
 use Rattle.words.specs.Word.{wordsOf, putWords}
 use Rattle.registers.specs.declared.Block.{Block}
 

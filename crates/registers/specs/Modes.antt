@@ -3,7 +3,7 @@ use Prim.Native.Nat.{ℕ, _+_, _%_}
 use mathlib.Core.Bool.{Bool, cond, not, _&&_}
 use lib.Dec.{eqb, ltb}
 use lib.Bits.{bitOr}
-use Rattle.bits.specs.Bit.{bit, flag}
+use Rattle.bits.specs.Bit.{flag}
 use Rattle.registers.specs.declared.Block.{Block}
 use Rattle.registers.specs.Block.{withTrs, withTrr, withGif, withTsc, withTec, withRec, withMode, withWaiting, withRecovery, withOptions, withTso, normal, sleep, noMode, busOffAt}
 use Rattle.registers.specs.Status.{vacant, asleep, busOff, passive, warning}

@@ -5,7 +5,7 @@ use mathlib.Core.List.{List, [], _∷_}
 use lib.Dec.{eqb}
 use lib.Bits.{bitAnd, bitOr}
 use lib.ListN.{getD}
-use Rattle.bits.specs.Bit.{bit, mask, without, setBit, flag}
+use Rattle.bits.specs.Bit.{bit, without, setBit, flag}
 use Rattle.registers.specs.declared.Block.{Block}
 use Rattle.registers.specs.Block.{withMc, withMd, withTrs, withTrr, withTa, withAa, withRmp, withRml, withLam, withGam, withRfp, withCdr, withMbtif, withMbrif, withMbim, withGif, withGim, withBcr1, withBcr2, withTsc, withTso}
 use Rattle.registers.specs.Status.{filled}
@@ -48,8 +48,8 @@ released b v = withRfp (withRml (withRmp b (without (b .rmp) v)) (without (b .rm
 unfoldable pub noted : Block → ℕ → Block
 noted b v = withTso (withGif b (without (b .gif) v)) (cond (bit v 3) 0 (b .tso))
 
--- Writing: what a write of v does, register by register. The three that are not described above: the value is taken, or a 1
--- clears; 7 and 10 (RML and RFP) cannot be written.
+-- Writing: what a write of v does, register by register. Where nothing is described above, the value is taken, or a 1 clears; 7
+-- and 10 (RML and RFP) cannot be written.
 abbrev pub writes : Block → ℕ → List Block
 writes b v =
     withMc b v

@@ -1,7 +1,6 @@
 // What a frame does to the block.
 ghost use mathlib.Core.Path.{_≡_};
-ghost use mathlib.Core.Bool.{Bool};
-ghost use Prim.Native.Nat.{ℕ, _<_, _-_};
+ghost use Prim.Native.Nat.{_<_, _-_};
 ghost use Rattle.registers.specs.Frames.{fallen as fallenOf, wakened, listened, stored, replied};
 use crate::Block;
 

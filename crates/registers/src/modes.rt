@@ -1,6 +1,6 @@
 // Counters, modes, ticks.
 ghost use mathlib.Core.Path.{_≡_};
-ghost use Prim.Native.Nat.{ℕ, _<_, _≤_};
+ghost use Prim.Native.Nat.{_<_, _≤_};
 ghost use Rattle.registers.specs.Modes.{atMost, onBus, overflows, ticked as tickedOf, worsened as worsenedOf, recovers, recessive as recessiveOf, optioned, asked, risen as risenOf, ready, entered, settled as settledOf};
 use crate::Block;
 

@@ -1,6 +1,6 @@
 // What starting and its outcome do to the block.
 ghost use mathlib.Core.Path.{_≡_};
-ghost use Prim.Native.Nat.{ℕ, _<_, _≤_};
+ghost use Prim.Native.Nat.{_<_, _≤_};
 ghost use Rattle.registers.specs.Sending.{eligible as eligibleOf, started, sent, failed};
 use crate::Block;
 use crate::frames::less_one;

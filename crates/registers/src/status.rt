@@ -1,6 +1,5 @@
 // What the registers say of the unit's state.
 ghost use mathlib.Core.Path.{_≡_};
-ghost use Prim.Native.Nat.{ℕ};
 ghost use Rattle.registers.specs.Status.{vacant, asleep, busOff, passive, warning};
 use crate::Block;
 

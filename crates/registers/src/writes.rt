@@ -1,9 +1,7 @@
 // What the firmware's register writes do.
 ghost use mathlib.Core.Path.{_≡_};
-ghost use Prim.Native.Nat.{ℕ, _<_};
-ghost use Rattle.registers.specs.Block.{withMc, withTa, withAa, withLam, withGam, withCdr, withMbtif, withMbrif, withMbim, withGim, withBcr1, withBcr2, withTsc};
-ghost use Rattle.bits.specs.Bit.{without};
-ghost use Rattle.registers.specs.Writes.{slotMask, directed, requested as requestedOf, cancelled as cancelledOf, released as releasedOf, noted as notedOf, written as writtenOf};
+ghost use Prim.Native.Nat.{_<_};
+ghost use Rattle.registers.specs.Writes.{slotMask, requested as requestedOf, cancelled as cancelledOf, released as releasedOf, noted as notedOf, written as writtenOf};
 use crate::Block;
 
 impl Block {

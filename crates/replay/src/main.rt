@@ -1,8 +1,10 @@
 // Prints the listing of a trace: of the file that the first argument names, or of standard input where there is none. What
 // cannot be opened or read gets a message on standard error, and nothing is printed.
+ghost use mathlib.Core.Path.{_≡_};
 ghost use Prim.Native.Nat.{_≤_};
-ghost use lib.ListN.{length};
+ghost use lib.ListN.{length, take};
 ghost use Rattle.io.specs.Counts.{Counts};
+ghost use Rattle.trace.specs.Trace.{listing, longest};
 use libc::STDERR_FILENO;
 use libc::STDIN_FILENO;
 use libc::STDOUT_FILENO;
@@ -41,10 +43,18 @@ fn read_all(fd: i32, buf: &mut [u8]) -> Got
     Got { count: done, whole }
 }
 
+// The listing of a file's bytes, at the front of bytes that have room for any; how many it has.
+fn list(file: &[u8], out: &mut [u8]) -> usize
+    requires { ⌜ longest ≤ length (now out) ⌝ }
+    ensures { λ r. ⌜ (take r (now (out .exit)) ≡ listing (now (file .entry))) × (r ≤ length (now (out .exit))) ⌝ }
+{
+    trace::list(file, out)
+}
+
 // The listing of a file's bytes, on standard output.
 fn show(file: &[u8]) {
     let mut out = [0u8; 39033];
-    let n = trace::list(file, &mut out);
+    let n = list(file, &mut out);
     if !io::write_all(STDOUT_FILENO, &out[..n]) {
         os::fail(b"replay: standard output");
     }

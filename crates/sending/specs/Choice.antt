@@ -5,7 +5,6 @@ use mathlib.Core.List.{List}
 use lib.Dec.{eqb, ltb}
 use Rattle.bits.specs.Bit.{bit}
 use Rattle.bits.specs.Below.{firstBelow}
-use Rattle.registers.specs.declared.Block.{Block}
 use Rattle.registers.specs.Block.{blockOf}
 use Rattle.registers.specs.Modes.{onBus}
 use Rattle.registers.specs.Sending.{eligible}

@@ -1,7 +1,6 @@
 // The choice of what to send.
 ghost use mathlib.Core.Path.{_≡_};
-ghost use mathlib.Core.Bool.{Bool};
-ghost use Prim.Native.Nat.{ℕ, _<_};
+ghost use Prim.Native.Nat.{_<_};
 ghost use lib.ListN.{length};
 ghost use Rattle.bits.specs.Bit.{bit};
 ghost use Rattle.bits.specs.Below.{firstBelow};

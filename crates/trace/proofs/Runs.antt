@@ -9,7 +9,8 @@ use lib.ListN.{length, take, drop, getD, length-append}
 use borrow.Author.Tests.{eqb-true, leb-true}
 use Rattle.bits.proofs.Sets.{and-l, and-r}
 use Rattle.model.specs.Step.{step}
-use Rattle.trace.specs.Trace.{eventBytes, countAt, endOf, second, third, takes, placed, sound, wellFormed, eventsFrom, section, events, line, lines, imageAfter, written, Put}
+use Rattle.events.specs.Parts.{eventBytes}
+use Rattle.trace.specs.Trace.{countAt, endOf, second, third, takes, placed, sound, wellFormed, eventsFrom, section, events, line, lines, imageAfter, written, Put}
 use Rattle.trace.proofs.Writing.{kept, onward, behind-both}
 
 -- ---- one event more

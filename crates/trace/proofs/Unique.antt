@@ -1,10 +1,11 @@
 -- The promise of the listing: how it is met where there is room, and that it leaves no choice.
 use Prim.Native.Nat.{ℕ, _+_, _≤_}
 use mathlib.Core.Path.{_≡_, refl, sym, _∙_}
-use mathlib.Core.List.{List}
+use mathlib.Core.List.{List, _++_}
 use native.Mathlib.Omega.{arith}
 use lib.Dec.{ltb}
-use lib.ListN.{length}
+use lib.ListN.{length, take, drop}
+use lib.Seq.{take-append-seam}
 use mathlib.Core.Bool.{Bool, true, false}
 use borrow.Author.Tests.{le-ltb, ltb-false}
 use Rattle.trace.specs.Trace.{listing, longest, Put, Listed}
@@ -21,6 +22,14 @@ listed f o l p =
       bytes = rw e (p .bytes ∙ written-is (listing f) o 0 (omega arith) ∙ rw n);
       answered = rw e (p .behind ∙ n);
     }
+
+-- where there is room, the front of the bytes is the listing
+pub front : {f o x : List ℕ} {r : ℕ} → longest ≤ length o → Listed f o x r → take r x ≡ listing f
+front {f} {o} {x} {r} l p =
+    let e = le-ltb (length o) longest l in
+    let a : r ≡ length (listing f) = rw e at (p .answered) in
+    let b : x ≡ listing f ++ drop (length (listing f)) o = rw e at (p .bytes) in
+    rw (a, b) (take-append-seam (listing f) (drop (length (listing f)) o))
 
 -- two outcomes that meet the promise coincide
 pub same-bytes : {f o x y : List ℕ} {q r : ℕ} → Listed f o x q → Listed f o y r → x ≡ y

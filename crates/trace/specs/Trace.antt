@@ -5,16 +5,14 @@ use mathlib.Core.Bool.{Bool, true, cond, _&&_, _||_}
 use mathlib.Core.List.{List, [], _∷_, _++_}
 use lib.Dec.{eqb, ltb, leb}
 use lib.ListN.{getD, length, take, drop, set}
+use Rattle.events.specs.Parts.{eventBytes}
 use Rattle.answers.specs.Answer.{Outcome}
 use Rattle.model.specs.Step.{step}
 use Rattle.fresh.specs.Fresh.{freshImage}
 
 -- ---- the file: three sections, one behind the other
 
--- The events: an event has 16 bytes. The trace program: a section has at most 1,000 of them.
-abbrev pub eventBytes : ℕ
-eventBytes = 16
-
+-- The trace program: a section has at most 1,000 events.
 abbrev pub mostEvents : ℕ
 mostEvents = 1000
 

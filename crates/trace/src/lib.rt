@@ -1,12 +1,11 @@
 // The trace program's library: a trace file in, its listing out.
 ghost use mathlib.Core.Path.{_≡_};
-ghost use mathlib.Core.Bool.{Bool, true};
-ghost use mathlib.Core.List.{List, [], _∷_};
-ghost use Prim.Native.Nat.{ℕ, _+_, _*_, _%_, _^_, _<_, _≤_};
+ghost use mathlib.Core.Bool.{true};
+ghost use Prim.Native.Nat.{_+_, _*_, _%_, _<_, _≤_};
 ghost use lib.ListN.{length, getD};
 ghost use Rattle.model.specs.Step.{step as stepOf};
 ghost use Rattle.fresh.specs.Fresh.{freshImage};
-ghost use Rattle.trace.specs.Trace.{countAt, endOf, second, third, takes as takesOf, placed, sound, wellFormed, section, events, decimal, field, lineOf, line, lines, imageAfter, ending, run as runOf, longest, Put, Listed};
+ghost use Rattle.trace.specs.Trace.{countAt, endOf, second, third, takes as takesOf, placed, sound, wellFormed, section, events, line, lines, imageAfter, run as runOf, longest, Put, Listed};
 
 mod text;
 

@@ -1,8 +1,8 @@
 // Text in lent bytes, from a place on; each function answers the place behind what it wrote.
 ghost use mathlib.Core.Path.{_≡_};
-ghost use mathlib.Core.List.{List, [], _∷_};
-ghost use Prim.Native.Nat.{ℕ, _+_, _%_, _<_, _≤_};
-ghost use lib.ListN.{length, getD};
+ghost use mathlib.Core.List.{[], _∷_};
+ghost use Prim.Native.Nat.{_+_, _%_, _<_, _≤_};
+ghost use lib.ListN.{length};
 ghost use Rattle.trace.specs.Trace.{decimal, field, lineOf, ending, Put};
 
 // One byte.

@@ -8,7 +8,7 @@ choose-requires c κs = search needs
 
 returns : tie.Need-returns
 unfolding candidates
-returns c = cc
+returns c = c .choose .ensures
 
 pub candidates-spec : {M : Type 1} → statement M
 candidates-spec = tie.close (tie.spec choose-requires returns)

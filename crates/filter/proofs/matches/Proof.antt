@@ -1,3 +1,8 @@
+use Prim.Native.Nat.{ℕ}
+use mathlib.Core.Path.{_∙_, ap}
+use lib.Dec.{eqb}
+use lib.Bits.{bitAnd, bitXor}
+use Rattle.bits.specs.Bit.{without}
 use Rattle.filter.specs.Filter.{matches}
 use borrow.Author.Needs.{needs}
 use Rattle.filter.proofs.matches.Statement.{statement}
@@ -17,7 +22,10 @@ without-requires c κs = search needs
 
 returns : tie.Need-returns
 unfolding matches
-returns c = cc
+returns c =
+    let w = c .before .before .before .before .args .w in
+    ap (λ (x : ℕ). eqb x 0) (c .without .ensures)
+    ∙ (λ i. eqb (without (bitAnd (bitXor w (c .before .before .before .frame-word .ensures i)) (c .before .before .compared .ensures i)) (c .before .freed .ensures i)) 0)
 
 pub matches-spec : {M : Type 1} → statement M
 matches-spec =

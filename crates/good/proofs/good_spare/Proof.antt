@@ -1,3 +1,6 @@
+use mathlib.Core.List.{[], _∷_}
+use lib.Dec.{eqb}
+use Rattle.bits.specs.Tests.{every}
 use Rattle.good.specs.Good.{goodSpare}
 use borrow.Author.Needs.{needs}
 use Rattle.good.proofs.good_spare.Statement.{statement}
@@ -17,7 +20,13 @@ word-at-requires-4 c κs = search needs
 
 returns : tie.Need-returns
 unfolding goodSpare
-returns c = cc
+returns c =
+    λ i. every
+    (eqb (c .before .before .before .word-at .ensures i) 0
+    ∷ eqb (c .before .before .word-at2 .ensures i) 0
+    ∷ eqb (c .before .word-at3 .ensures i) 0
+    ∷ eqb (c .word-at4 .ensures i) 0
+    ∷ [])
 
 pub good-spare-spec : {M : Type 1} → statement M
 good-spare-spec =

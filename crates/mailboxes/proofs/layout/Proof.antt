@@ -1,4 +1,6 @@
-use Rattle.mailboxes.specs.Mailbox.{layout}
+use mathlib.Core.Path.{_∙_, ap, ap₂}
+use mathlib.Core.Bool.{_&&_}
+use Rattle.mailboxes.specs.Mailbox.{wordLayout, layout}
 use borrow.Author.Needs.{needs}
 use Rattle.mailboxes.proofs.layout.Statement.{statement}
 use Rattle.mailboxes.proofs.layout.Tie as tie
@@ -17,7 +19,10 @@ control-layout-requires c κs = search needs
 
 returns : tie.Need-returns
 unfolding layout
-returns c = cc
+returns c =
+    ap₂ _&&_
+    (c .before .before .identifier-layout .ensures ∙ ap (wordLayout 0) (c .before .before .before .word .ensures))
+    (c .control-layout .ensures ∙ ap (wordLayout 1) (c .before .word2 .ensures))
 
 pub layout-spec : {M : Type 1} → statement M
 layout-spec =

@@ -1,3 +1,4 @@
+use lib.Bits.{bitXor}
 use borrow.Author.Needs.{needs}
 use Rattle.refusals.proofs.turned_round.Statement.{statement}
 use Rattle.refusals.proofs.turned_round.Tie as tie
@@ -6,7 +7,7 @@ set-requires : tie.Need-set-requires
 set-requires c κs = search needs
 
 returns : tie.Need-returns
-returns c = cc
+returns c = λ i. bitXor (c .before .set .ensures i) (c .before .before .args .b .md)
 
 pub turned-round-spec : {M : Type 1} → statement M
 turned-round-spec = tie.close (tie.spec set-requires returns)

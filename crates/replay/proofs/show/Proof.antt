@@ -1,7 +1,6 @@
 use mathlib.Core.Path.{sym}
 use native.Mathlib.Omega.{arith}
 use lib.Seq.{length-take-le}
-use Rattle.trace.proofs.Unique.{answer-most}
 use borrow.Author.Needs.{needs}
 use Rattle.replay.proofs.show.Statement.{statement}
 use Rattle.replay.proofs.show.Tie as tie
@@ -13,10 +12,10 @@ list-requires : tie.Need-list-requires
 list-requires c κs = search needs
 
 array-share-prefix-out : tie.Need-array-share-prefix-out
-array-share-prefix-out c = omega (arith, answer-most (c .before .list .ensures), c .before .list .kept .1 .0)
+array-share-prefix-out c = c .before .list .ensures .1
 
 slice-aggregate-write-all : tie.Need-slice-aggregate-write-all
-slice-aggregate-write-all c = sym (length-take-le (c .before .before .list .result) (c .before .before .list .last .1 .0) (omega (arith, answer-most (c .before .before .list .ensures), c .before .before .list .kept .1 .0)))
+slice-aggregate-write-all c = sym (length-take-le (c .before .before .list .result) (c .before .before .list .last .1 .0) (c .before .before .list .ensures .1))
 
 write-all-requires : tie.Need-write-all-requires
 write-all-requires c κs = search needs

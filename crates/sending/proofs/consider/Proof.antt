@@ -1,5 +1,5 @@
-use mathlib.Core.Path.{sym, _∙_}
-use Rattle.sending.specs.Choice.{considered}
+use mathlib.Core.Path.{sym, _∙_, ap}
+use Rattle.sending.specs.Choice.{betterOf, considered}
 use borrow.Author.Needs.{needs}
 use Rattle.sending.proofs.consider.Statement.{statement}
 use Rattle.sending.proofs.consider.Tie as tie
@@ -15,7 +15,9 @@ better-requires c κs = search needs
 
 returns : tie.Need-returns
 unfolding considered
-returns c = rw (sym (c .before .before .before .test .ensures) ∙ c .before .before .if1 .taken) (cc)
+returns c =
+    let a = c .before .before .before .before .before .args in
+    rw (sym (c .before .before .before .test .ensures) ∙ c .before .before .if1 .taken) (c .better .ensures ∙ ap (betterOf (a .best) (a .n)) (c .before .key-at .ensures))
 
 returns-2 : tie.Need-returns-2
 unfolding considered

@@ -1,3 +1,6 @@
+use mathlib.Core.Path.{_∙_, ap}
+use Rattle.mailboxes.specs.Mailbox.{ide, rtr}
+use Rattle.mailboxes.specs.Arbitration.{identifierOf, keyOf}
 use Rattle.sending.specs.Choice.{keyAt}
 use borrow.Author.Needs.{needs}
 use Rattle.sending.proofs.key_at.Statement.{statement}
@@ -23,7 +26,12 @@ key-of-requires c κs = search needs
 
 returns : tie.Need-returns
 unfolding keyAt
-returns c = cc
+returns c =
+    let w = c .before .before .before .before .before .word .ensures in
+    let id = c .before .before .before .identifier-of .ensures ∙ ap identifierOf w in
+    let extended = c .before .before .test .ensures ∙ ap ide w in
+    let remote = c .before .test2 .ensures ∙ ap rtr (c .before .before .before .before .word2 .ensures) in
+    c .key-of .ensures ∙ (λ i. keyOf (id i) (extended i) (remote i))
 
 pub key-at-spec : {M : Type 1} → statement M
 key-at-spec =

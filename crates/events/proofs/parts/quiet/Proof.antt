@@ -1,3 +1,9 @@
+use Prim.Native.Nat.{ℕ, _*_, _/_, _^_}
+use mathlib.Core.Path.{_∙_, ap}
+use mathlib.Core.Bool.{_||_}
+use mathlib.Core.List.{[], _∷_}
+use lib.Dec.{eqb}
+use Rattle.bits.specs.Tests.{every}
 use Rattle.events.specs.Parts.{quiet}
 use Rattle.events.proofs.Laws.{halves}
 use borrow.Author.Needs.{needs}
@@ -40,8 +46,15 @@ shr-result-2 c = search needs
 returns : tie.Need-returns
 unfolding quiet
 returns c =
-    let b = c .before .before .before .before in
-    rw (b .byte-at .ensures, c .before .before .before .byte-at2 .ensures, c .before .before .byte-at3 .ensures, c .before .word-at .ensures, c .payload .ensures, halves)
+    let a = c .before .before .before .before .before .before .args in
+    let bytes = ap (λ (p : ℕ). p / 2 ^ (4 * a .n) / 2 ^ (4 * a .n)) (c .payload .ensures) ∙ halves _ (a .n) in
+    λ i. every
+    ((a .t || eqb (c .before .before .before .before .byte-at .ensures i) 0)
+    ∷ (a .w || eqb (c .before .before .before .byte-at2 .ensures i) 0)
+    ∷ eqb (c .before .before .byte-at3 .ensures i) 0
+    ∷ (a .v || eqb (c .before .word-at .ensures i) 0)
+    ∷ eqb (bytes i) 0
+    ∷ [])
 
 pub quiet-spec : {M : Type 1} → statement M
 quiet-spec =

@@ -1,6 +1,11 @@
+use Prim.Native.Nat.{ℕ}
+use denote.Ref.{now}
+use mathlib.Core.Path.{_∙_, ap, ap₂}
+use mathlib.Core.List.{List}
+use Rattle.words.specs.Word.{putWord}
 use Rattle.mailboxes.proofs.Filed.{data-bytes-le}
 use native.Mathlib.Omega.{arith}
-use Rattle.mailboxes.specs.Filing.{filed}
+use Rattle.mailboxes.specs.Filing.{filedIdentifier, spliced, withData, filed}
 use borrow.Author.Needs.{needs}
 use Rattle.mailboxes.proofs.filing.file.Statement.{statement}
 use Rattle.mailboxes.proofs.filing.file.Tie as tie
@@ -39,7 +44,13 @@ same-length c = search needs
 
 returns : tie.Need-returns
 unfolding filed
-returns c = cc
+returns c =
+    let a = c .before .before .before .before .before .before .before .before .before .before .before .before .before .before .before .before .before .before .before .before .before .args in
+    let d = c .before .before .before .before .before .before .before .before .before .before .before .before .before .before .before .before .spliced .ensures ∙ ap₂ (λ (x n : ℕ). spliced x (a .bytes) n) (c .before .before .before .before .before .before .before .before .before .before .before .before .before .before .before .before .before .before .data-of .ensures) (c .before .before .before .before .before .before .before .before .before .before .before .before .before .before .before .before .before .data-bytes .ensures) in
+    let w = c .before .before .before .before .before .before .before .before .before .before .before .before .before .filed-identifier .ensures ∙ ap (λ (x : ℕ). filedIdentifier x (a .ide) (a .i)) (c .before .before .before .before .before .before .before .before .before .before .before .before .before .before .word-at .ensures) in
+    let m1 = c .before .before .before .before .before .before .before .before .before .before .before .put-word .ensures ∙ ap (putWord (now (a .m)) 0) w in
+    let m2 = c .before .before .before .before .before .before .put-word2 .ensures ∙ ap₂ (λ (m : List ℕ) (v : ℕ). putWord m 4 v) m1 (c .before .before .before .before .before .before .before .filed-control .ensures) in
+    c .before .before .put-data .ensures ∙ ap₂ withData m2 d
 
 pub file-spec : {M : Type 1} → statement M
 file-spec =

@@ -1,3 +1,7 @@
+use Prim.Native.Nat.{ℕ, _/_, _^_}
+use mathlib.Core.Path.{_∙_, ap}
+use mathlib.Core.List.{List}
+use Rattle.words.specs.Word.{putWord}
 use borrow.Author.Needs.{needs}
 use Rattle.mailboxes.proofs.filing.put_data.Statement.{statement}
 use Rattle.mailboxes.proofs.filing.put_data.Tie as tie
@@ -18,7 +22,9 @@ same-length : tie.Need-same-length
 same-length c = search needs
 
 returns : tie.Need-returns
-returns c = cc
+returns c =
+    c .before .before .put-word2 .ensures
+    ∙ ap (λ (m : List ℕ). putWord m 12 (c .before .before .before .before .before .before .before .before .before .args .d / 2 ^ 32)) (c .before .before .before .before .before .before .put-word .ensures)
 
 pub put-data-spec : {M : Type 1} → statement M
 put-data-spec =

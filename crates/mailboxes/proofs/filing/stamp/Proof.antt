@@ -1,4 +1,8 @@
-use Rattle.mailboxes.specs.Filing.{stamped}
+use Prim.Native.Nat.{ℕ}
+use denote.Ref.{now}
+use mathlib.Core.Path.{_∙_, ap}
+use Rattle.words.specs.Word.{putWord}
+use Rattle.mailboxes.specs.Filing.{stampedControl, stamped}
 use borrow.Author.Needs.{needs}
 use Rattle.mailboxes.proofs.filing.stamp.Statement.{statement}
 use Rattle.mailboxes.proofs.filing.stamp.Tie as tie
@@ -20,7 +24,10 @@ same-length c = search needs
 
 returns : tie.Need-returns
 unfolding stamped
-returns c = cc
+returns c =
+    let a = c .before .before .before .before .before .before .before .args in
+    c .before .before .put-word .ensures
+    ∙ ap (λ (w : ℕ). putWord (now (a .m)) 4 (stampedControl w (a .tsc))) (c .before .before .before .before .word-at .ensures)
 
 pub stamp-spec : {M : Type 1} → statement M
 stamp-spec =

@@ -1,6 +1,8 @@
-use mathlib.Core.Bool.{_||_}
+use Prim.Native.Nat.{ℕ, _+_, _*_, _^_}
+use mathlib.Core.Path.{_∙_, ap}
+use mathlib.Core.Bool.{cond, _||_}
 use native.Mathlib.Omega.{arith}
-use Rattle.mailboxes.specs.Arbitration.{keyOf}
+use Rattle.mailboxes.specs.Arbitration.{base, low, keyOf}
 use Rattle.mailboxes.proofs.Laws.{cond-le}
 use borrow.Author.Needs.{needs}
 use Rattle.mailboxes.proofs.keys.key_of.Statement.{statement}
@@ -50,7 +52,10 @@ add-t12 c =
 
 returns : tie.Need-returns
 unfolding keyOf
-returns c = cc
+returns c =
+    let a = c .before .before .before .before .before .before .args in
+    let rest = c .choose .ensures ∙ ap (λ (f : ℕ). cond (a .ide) (low (a .i) * 2 + f) 0) (c .before .before .before .flag .ensures) in
+    λ j. record { 0 = base (a .i) * 2 ^ 21 + c .before .before .flag2 .ensures j + c .before .flag3 .ensures j + rest j }
 
 pub key-of-spec : {M : Type 1} → statement M
 key-of-spec =
