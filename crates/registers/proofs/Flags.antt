@@ -4,14 +4,21 @@ use mathlib.Core.Path.{_≡_, refl, _∙_, ap, ap₂}
 use mathlib.Core.Bool.{Bool, true, false, cond, not, _&&_, _||_, or-true, or-false, and-true, and-false}
 use lib.Dec.{eqb}
 use lib.Bits.{bitAnd, bitOr}
+use borrow.Author.Tests.{eq-eqb}
 use Rattle.bits.specs.Bit.{bit, mask, without, flag}
 use Rattle.bits.proofs.Laws.{bit-and, bit-or, bit-without, bit-mask, bit-flag, bit-zero}
 use Rattle.registers.specs.declared.Block.{Block}
-use Rattle.registers.specs.Status.{filled}
-use Rattle.registers.specs.Writes.{slotMask, ending, late, requested, cancelled, released, noted, written}
-use Rattle.registers.specs.Modes.{ticked, overflows, entered, fallsAsleep}
+use Rattle.registers.specs.Block.{noMode}
+use Rattle.registers.specs.Status.{filled, asleep, busOff, passive, warning}
+use Rattle.registers.specs.Writes.{gifWith, slotMask, ending, late, requested, cancelled, released, noted, written}
+use Rattle.registers.specs.Modes.{ticked, overflows, asked, rises, risen, entered, fallsAsleep, wakes}
 use Rattle.registers.specs.Frames.{listened, wakened, stored, replied}
 use Rattle.registers.specs.Sending.{sent, aborting, failed}
+
+-- a bit of GIF that a condition raises
+module _ (b : Block) (t : Bool) (n m : ℕ) where
+  raised : bit (gifWith b t n) m ≡ (bit (b .gif) m || t && eqb m n)
+  raised = bit-or (b .gif) (flag t n) m ∙ ap (λ (x : Bool). bit (b .gif) m || x) (bit-flag t n m)
 
 -- ---- after a write of v
 
@@ -79,6 +86,10 @@ module _ (b : Block) (v m : ℕ) where
   unfolding cancelled
   cancelled-aa = bit-or (b .aa) (ending b v) m
 
+  pub cancelled-gif : bit (cancelled b v .gif) m ≡ (bit (b .gif) m || not (eqb (ending b v) 0) && eqb m 4)
+  unfolding cancelled
+  cancelled-gif = raised b (not (eqb (ending b v) 0)) 4 m
+
 -- ---- the slot
 
 module _ (b : Block) (m : ℕ) where
@@ -141,6 +152,16 @@ module _ (b : Block) (m : ℕ) where
   unfolding sent
   sent-ta = bit-or (b .ta) (slotMask b) m
 
+  pub sent-trr : bit (sent b .trr) m ≡ (bit (b .trr) m && not (bit (slotMask b) m))
+  unfolding sent
+  sent-trr = bit-without (b .trr) (slotMask b) m
+
+  pub sent-mbtif : bit (sent b .mbtif) m ≡ (bit (b .mbtif) m || bit (b .mbim) m && bit (slotMask b) m)
+  unfolding sent
+  sent-mbtif =
+      bit-or (b .mbtif) (bitAnd (b .mbim) (slotMask b)) m
+      ∙ ap (λ (x : Bool). bit (b .mbtif) m || x) (bit-and (b .mbim) (slotMask b) m)
+
   pub aborting-bit : bit (aborting b) m ≡ (bit (slotMask b) m && bit (b .trr) m)
   aborting-bit = bit-and (slotMask b) (b .trr) m
 
@@ -151,6 +172,14 @@ module _ (b : Block) (m : ℕ) where
   pub failed-aa : (more : ℕ) → bit (failed b more .aa) m ≡ (bit (b .aa) m || bit (aborting b) m)
   unfolding failed
   failed-aa more = bit-or (b .aa) (aborting b) m
+
+  pub failed-trr : (more : ℕ) → bit (failed b more .trr) m ≡ (bit (b .trr) m && not (bit (aborting b) m))
+  unfolding failed
+  failed-trr more = bit-without (b .trr) (aborting b) m
+
+  pub failed-gif : (more : ℕ) → bit (failed b more .gif) m ≡ (bit (b .gif) m || not (eqb (aborting b) 0) && eqb m 4)
+  unfolding failed
+  failed-gif more = raised b (not (eqb (aborting b) 0)) 4 m
 
 -- ---- modes
 
@@ -164,6 +193,32 @@ module _ (b : Block) (m : ℕ) where
       at true = bit-zero m
       at false = refl
 
+  pub entered-gif : bit (entered b .gif) m ≡ (bit (b .gif) m || wakes b && eqb m 6)
+  unfolding entered
+  entered-gif = raised b (wakes b) 6 m
+
+  -- bus off, passive and warning, each where it holds now and did not before
+  pub risen-gif : (a : Block)
+      → bit (risen a b .gif) m
+      ≡ (bit (b .gif) m || rises (busOff a) (busOff b) && eqb m 2 || rises (passive a) (passive b) && eqb m 1 || rises (warning a) (warning b) && eqb m 0)
+  unfolding risen
+  risen-gif a =
+      bit-or _ (flag (rises (warning a) (warning b)) 0) m
+      ∙ ap₂ _||_
+      (bit-or _ (flag (rises (passive a) (passive b)) 1) m
+      ∙ ap₂ _||_ (raised b (rises (busOff a) (busOff b)) 2 m) (bit-flag (rises (passive a) (passive b)) 1 m))
+      (bit-flag (rises (warning a) (warning b)) 0 m)
+
+  -- asking for the present mode calls off what waits
+  pub asked-again : asked b (b .mode) .waiting ≡ noMode
+  unfolding asked
+  asked-again = rw (eq-eqb (b .mode) (b .mode) refl)
+
+  -- asleep a tick does nothing
+  pub asleep-ticked : asleep b ≡ true → ticked b .tsc ≡ b .tsc
+  unfolding ticked
+  asleep-ticked h = rw h
+
 -- an overflow of the time stamp counter, and a GIF write that clears it
 module _ (b : Block) where
   pub ticked-tso : ticked b .tso ≡ cond (overflows b) 1 (b .tso)
@@ -172,8 +227,7 @@ module _ (b : Block) where
 
   pub ticked-gif : (m : ℕ) → bit (ticked b .gif) m ≡ (bit (b .gif) m || overflows b && eqb m 3)
   unfolding ticked
-  ticked-gif m =
-      bit-or (b .gif) (flag (overflows b) 3) m ∙ ap (λ (x : Bool). bit (b .gif) m || x) (bit-flag (overflows b) 3 m)
+  ticked-gif m = raised b (overflows b) 3 m
 
   pub noted-gif : (v m : ℕ) → bit (noted b v .gif) m ≡ (bit (b .gif) m && not (bit v m))
   unfolding noted
@@ -185,5 +239,4 @@ module _ (b : Block) where
 
   pub listened-gif : (m : ℕ) → bit (listened b .gif) m ≡ (bit (b .gif) m || wakened b && eqb m 6)
   unfolding listened
-  listened-gif m =
-      bit-or (b .gif) (flag (wakened b) 6) m ∙ ap (λ (x : Bool). bit (b .gif) m || x) (bit-flag (wakened b) 6 m)
+  listened-gif m = raised b (wakened b) 6 m
