@@ -23,12 +23,12 @@ use Rattle.model.specs.Step.{own, goes, delivered, blockAfter, stowed, postmark
 use Rattle.books.specs.Ledger.{store, acknowledge, request, cancel, send, abort, sleep, reset, now, row, after, entry, plus, book, books, empty}
 use Rattle.books.specs.Happen.{when, direct, byFrame, happens, history, booked}
 use Rattle.sample.specs.Run.{log}
-use Rattle.sample.proofs.Pass.{are-bytes, pass, in-one-pass}
+use Rattle.sample.proofs.Pass.{inRow, walked, are-bytes, pass, in-one-pass}
 
 -- computed without the test whether the image is good, which costs the checker more than all else
 passed : pass 3 freshImage log
     ≡ store ∷ store ∷ acknowledge ∷ store ∷ request ∷ cancel ∷ request ∷ send ∷ request ∷ abort ∷ request ∷ sleep ∷ request ∷ reset ∷ []
-unfolding digit allBelow countBelow firstBelow wordAt putWord wordsOf putWords blockOf putBlock freshBlock requested cancelled released written asked risen entered settled listened stored sent failed mailbox withMailbox spliced filed stamped quiet frameOf frameAllowed registerAllowed decoded candidates matches hits found placed delivery chosen next remaining zeroImage freshImage own goes delivered blockAfter stowed postmarked mailboxesAfter accepted when direct byFrame happens pass log
+unfolding digit allBelow countBelow firstBelow wordAt putWord wordsOf putWords blockOf putBlock freshBlock requested cancelled released written asked risen entered settled listened stored sent failed mailbox withMailbox spliced filed stamped quiet frameOf frameAllowed registerAllowed decoded candidates matches hits found placed delivery chosen next remaining zeroImage freshImage own goes delivered blockAfter stowed postmarked mailboxesAfter accepted when direct byFrame happens inRow walked pass log
 passed = refl
 
 -- what happens there: two frames, the second over the first, a release, a third frame; then five requests, each with its end

@@ -1,31 +1,99 @@
 -- A run without the test whether the image is good: from a good image, with events of bytes, it stays good. So the checker need not
 -- compute that test at every step.
-use Prim.Native.Nat.{ℕ}
+use Prim.Native.Nat.{ℕ, zero, suc, _+_, _/_, _%_}
 use mathlib.Core.Path.{_≡_, refl, _∙_, ap}
 use mathlib.Core.Bool.{Bool, true, false, cond, _&&_}
 use mathlib.Core.List.{List, [], _∷_, _++_}
+use native.Mathlib.Omega.{arith}
 use lib.Dec.{eqb, ltb}
+use lib.ListN.{set}
 use borrow.Author.Tests.{ltb-true}
 use Rattle.bits.proofs.Sets.{and-l, and-r}
+use Rattle.words.specs.Word.{putWord, putWords}
 use Rattle.words.proofs.Bytes.{Bytes, bytes-nil, bytes-cons}
-use Rattle.registers.specs.Block.{blockOf}
+use Rattle.registers.specs.Block.{registersAt, toWords, blockOf, putBlock}
 use Rattle.registers.specs.Status.{asleep}
+use Rattle.events.specs.declared.Event.{Event}
 use Rattle.events.specs.Decode.{event, decoded}
 use Rattle.good.proofs.Image.{GoodImage, image-good}
 use Rattle.refusals.specs.Refusal.{refusal, remaining}
 use Rattle.refusals.proofs.Order.{refusal-good}
 use Rattle.answers.specs.Answer.{refused}
-use Rattle.model.specs.Step.{accepted, step}
+use Rattle.model.specs.Step.{blockAfter, mailboxesAfter, accepted, step}
 use Rattle.demand2.proofs.Kept.{step-good}
 use Rattle.books.specs.Ledger.{Happening}
 use Rattle.books.specs.Happen.{happens, happenings, history}
+
+-- ---- words put into a list in one walk, where putWords walks it for every byte
+
+unfoldable pub inRow : List ℕ → List ℕ → List ℕ
+inRow s [] = s
+inRow [] (w ∷ ws) = putWords [] 0 (w ∷ ws)
+inRow (a ∷ []) (w ∷ ws) = putWords (a ∷ []) 0 (w ∷ ws)
+inRow (a ∷ b ∷ []) (w ∷ ws) = putWords (a ∷ b ∷ []) 0 (w ∷ ws)
+inRow (a ∷ b ∷ c ∷ []) (w ∷ ws) = putWords (a ∷ b ∷ c ∷ []) 0 (w ∷ ws)
+inRow (a ∷ b ∷ c ∷ d ∷ s) (w ∷ ws) = w % 256 ∷ w / 256 % 256 ∷ w / 65536 % 256 ∷ w / 16777216 % 256 ∷ inRow s ws
+
+unfoldable pub walked : List ℕ → ℕ → List ℕ → List ℕ
+walked s zero ws = inRow s ws
+walked [] (suc at) ws = putWords [] (suc at) ws
+walked (a ∷ s) (suc at) ws = a ∷ walked s at ws
+
+put-behind : (a : ℕ) (s : List ℕ) (at v : ℕ) → putWord (a ∷ s) (suc at) v ≡ a ∷ putWord s at v
+unfolding putWord
+put-behind a s at v =
+    let e1 : suc at + 1 ≡ suc (at + 1) = omega arith in
+    let e2 : suc at + 2 ≡ suc (at + 2) = omega arith in
+    let e3 : suc at + 3 ≡ suc (at + 3) = omega arith in
+    λ i. set (set (set (set (a ∷ s) (suc at) (v % 256)) (e1 i) (v / 256 % 256)) (e2 i) (v / 65536 % 256)) (e3 i) (v / 16777216 % 256)
+
+puts-behind : (a : ℕ) (s : List ℕ) (at : ℕ) (ws : List ℕ) → putWords (a ∷ s) (suc at) ws ≡ a ∷ putWords s at ws
+unfolding putWords
+puts-behind a s at [] = refl
+puts-behind a s at (w ∷ ws) =
+    let e : suc at + 4 ≡ suc (at + 4) = omega arith in
+    ap (λ (x : List ℕ). putWords x (suc at + 4) ws) (put-behind a s at w)
+    ∙ ap (λ (k : ℕ). putWords (a ∷ putWord s at w) k ws) e
+    ∙ puts-behind a (putWord s at w) (at + 4) ws
+
+in-row : (s ws : List ℕ) → putWords s 0 ws ≡ inRow s ws
+unfolding inRow putWords putWord
+in-row s [] = refl
+in-row [] (w ∷ ws) = refl
+in-row (a ∷ []) (w ∷ ws) = refl
+in-row (a ∷ b ∷ []) (w ∷ ws) = refl
+in-row (a ∷ b ∷ c ∷ []) (w ∷ ws) = refl
+in-row (a ∷ b ∷ c ∷ d ∷ s) (w ∷ ws) =
+    let x = w % 256 in
+    let y = w / 256 % 256 in
+    let z = w / 65536 % 256 in
+    let u = w / 16777216 % 256 in
+    puts-behind x (y ∷ z ∷ u ∷ s) 3 ws
+    ∙ ap (λ (l : List ℕ). x ∷ l) (puts-behind y (z ∷ u ∷ s) 2 ws)
+    ∙ ap (λ (l : List ℕ). x ∷ y ∷ l) (puts-behind z (u ∷ s) 1 ws)
+    ∙ ap (λ (l : List ℕ). x ∷ y ∷ z ∷ l) (puts-behind u s 0 ws ∙ ap (λ (l : List ℕ). u ∷ l) (in-row s ws))
+
+in-one-walk : (s : List ℕ) (at : ℕ) (ws : List ℕ) → putWords s at ws ≡ walked s at ws
+unfolding walked
+in-one-walk s zero ws = in-row s ws
+in-one-walk [] (suc at) ws = refl
+in-one-walk (a ∷ s) (suc at) ws = puts-behind a s at ws ∙ ap (λ (l : List ℕ). a ∷ l) (in-one-walk s at ws)
+
+-- ---- the run
+
+abbrev pub onward : List ℕ → Event → List ℕ
+onward s e = walked (mailboxesAfter s e) registersAt (toWords (blockAfter s e))
+
+goes-onward : (s : List ℕ) (e : Event) → accepted s e .image ≡ onward s e
+unfolding accepted putBlock
+goes-onward s e = in-one-walk (mailboxesAfter s e) registersAt (toWords (blockAfter s e))
 
 abbrev pub taken : List ℕ → List ℕ → Bool
 taken s e = eqb (remaining s (decoded (asleep (blockOf s)) e)) 0
 
 unfoldable pub pass : ℕ → List ℕ → List (List ℕ) → List Happening
 pass m s [] = []
-pass m s (e ∷ l) = cond (taken s e) (happens s (event e) m ++ pass m (accepted s (event e) .image) l) (pass m s l)
+pass m s (e ∷ l) = cond (taken s e) (happens s (event e) m ++ pass m (onward s (event e)) l) (pass m s l)
 
 abbrev pub AllBytes : List (List ℕ) → Type 0
 AllBytes [] = Unit
@@ -52,8 +120,9 @@ are-bytes (e ∷ l) h = (is-bytes e (and-l (isBytes e) (areBytes l) h), are-byte
 one : (m : ℕ) (s e : List ℕ) (l : List (List ℕ)) (t : Bool)
     → history m (cond t (accepted s (event e)) (refused s (refusal s e)) .image) l ≡ pass m (cond t (accepted s (event e)) (refused s (refusal s e)) .image) l
     → (cond t (happens s (event e) m) [] ++ history m (cond t (accepted s (event e)) (refused s (refusal s e)) .image) l)
-    ≡ cond t (happens s (event e) m ++ pass m (accepted s (event e) .image) l) (pass m s l)
-one m s e l true h = ap (λ (r : List Happening). happens s (event e) m ++ r) h
+    ≡ cond t (happens s (event e) m ++ pass m (onward s (event e)) l) (pass m s l)
+one m s e l true h =
+    ap (λ (r : List Happening). happens s (event e) m ++ r) (h ∙ ap (λ (x : List ℕ). pass m x l) (goes-onward s (event e)))
 one m s e l false h = h
 
 pub in-one-pass : (m : ℕ) (s : List ℕ) (l : List (List ℕ)) → GoodImage s → AllBytes l → history m s l ≡ pass m s l
@@ -63,4 +132,4 @@ in-one-pass m s (e ∷ l) g b =
     let same : eqb (refusal s e) 0 ≡ taken s e = ap (λ (r : ℕ). eqb r 0) (refusal-good s e (image-good s g)) in
     one m s e l (eqb (refusal s e) 0)
     (in-one-pass m (step s e .image) l (step-good s e (g .bytes) (b .0) (image-good s g)) (b .1))
-    ∙ ap (λ (t : Bool). cond t (happens s (event e) m ++ pass m (accepted s (event e) .image) l) (pass m s l)) same
+    ∙ ap (λ (t : Bool). cond t (happens s (event e) m ++ pass m (onward s (event e)) l) (pass m s l)) same

@@ -11,7 +11,7 @@ use Rattle.bits.proofs.Sets.{and-l, and-r}
 use Rattle.model.specs.Step.{step}
 use Rattle.events.specs.Parts.{eventBytes}
 use Rattle.trace.specs.Trace.{countAt, endOf, second, third, takes, placed, sound, wellFormed, eventsFrom, section, events, line, lines, imageAfter, written, Put}
-use Rattle.trace.proofs.Writing.{kept, onward, behind-both}
+use Rattle.trace.proofs.Writing.{as-text, kept, onward, behind-both, both-put, room, front}
 
 -- ---- one event more
 
@@ -144,6 +144,51 @@ module _ (f s : List ℕ) where
 pub lines-same : (f : List ℕ) {n m : ℕ} {s t : List ℕ} {a b : ℕ} → n ≡ m → s ≡ t → a ≡ b → lines n s (section f a) ≡ lines m t (section f b)
 lines-same f {n} {m} {s} {t} {a} {b} e g h =
     ap (λ (x : ℕ). lines x s (section f a)) e ∙ ap (λ (x : List ℕ). lines m x (section f a)) g ∙ ap (λ (x : ℕ). lines m t (section f x)) h
+
+-- one section's text and image behind another's: from an image that is s, the second section and its number by other names
+module _ (f o : List ℕ) (at : ℕ) {s s₀ : List ℕ} (img : s₀ ≡ s) (all : at + length (lines 1 s (events f)) ≤ length o) where
+  in-three : at + length (linesOne f s ++ (linesTwo f s ++ linesThree f s)) ≤ length o
+  in-three = rw (three-runs f s) at all
+
+  same-one : lines 1 s₀ (section f 0) ≡ linesOne f s
+  same-one = ap (λ (x : List ℕ). lines 1 x (section f 0)) img
+
+  pub room-one : at + length (lines 1 s₀ (section f 0)) ≤ length o
+  room-one =
+      omega (arith, ap length same-one, front (linesOne f s) (linesTwo f s ++ linesThree f s) at (length o) in-three)
+
+  module _ {o₁ s₁ : List ℕ} {at₁ n b : ℕ} (p : Put o at (lines 1 s₀ (section f 0)) o₁ at₁) (i : s₁ ≡ imageAfter s₀ (section f 0)) (e : n ≡ countAt f 0) (h : b ≡ second f) where
+    put-one : Put o at (linesOne f s) o₁ at₁
+    put-one = as-text same-one p
+
+    image-one : s₁ ≡ afterOne f s
+    image-one = i ∙ ap (λ (x : List ℕ). imageAfter x (section f 0)) img
+
+    same-two : lines (1 + n) s₁ (section f b) ≡ linesTwo f s
+    same-two = lines-same f (ap (λ (k : ℕ). 1 + k) e) image-one h
+
+    in-two : at₁ + length (linesTwo f s ++ linesThree f s) ≤ length o₁
+    in-two = room put-one (linesTwo f s ++ linesThree f s) in-three
+
+    pub room-two : at₁ + length (lines (1 + n) s₁ (section f b)) ≤ length o₁
+    room-two = omega (arith, ap length same-two, front (linesTwo f s) (linesThree f s) at₁ (length o₁) in-two)
+
+    module _ {o₂ s₂ : List ℕ} {at₂ m d : ℕ} (q : Put o₁ at₁ (lines (1 + n) s₁ (section f b)) o₂ at₂) (j : s₂ ≡ imageAfter s₁ (section f b)) (g : m ≡ countAt f b) (l : d ≡ endOf f b) where
+      put-two : Put o₁ at₁ (linesTwo f s) o₂ at₂
+      put-two = as-text same-two q
+
+      image-two : s₂ ≡ afterTwo f s
+      image-two = j ∙ ap (λ (x : List ℕ). imageAfter x (section f b)) image-one ∙ ap (λ (k : ℕ). imageAfter (afterOne f s) (section f k)) h
+
+      same-three : lines (1 + n + m) s₂ (section f d) ≡ linesThree f s
+      same-three =
+          lines-same f (ap (λ (k : ℕ). 1 + k + m) e ∙ ap (λ (k : ℕ). 1 + countAt f 0 + k) (g ∙ ap (countAt f) h)) image-two (l ∙ ap (endOf f) h)
+
+      pub room-three : at₂ + length (lines (1 + n + m) s₂ (section f d)) ≤ length o₂
+      room-three = omega (arith, ap length same-three, room put-two (linesThree f s) in-two)
+
+      pub put-three : {o₃ : List ℕ} {at₃ : ℕ} → Put o₂ at₂ (lines (1 + n + m) s₂ (section f d)) o₃ at₃ → Put o at (lines 1 s (events f)) o₃ at₃
+      put-three r = as-text (sym (three-runs f s)) (both-put put-one (both-put put-two (as-text same-three r)))
 
 -- ---- the state of a section that is being run
 
