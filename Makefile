@@ -2,10 +2,11 @@
 # make registers  builds the library and prints every register of a fresh model
 # make test       the gate: the same as .ci/run
 # make host-test  the C tests alone
-# make compare    the library against the reference, STEPS=200000 SEED=1
+# make compare    the library and the trace program against the reference, STEPS=200000 TRACES=1000 SEED=1
 
 TRACE = examples/worked.trace
 STEPS = 200000
+TRACES = 1000
 SEED = 1
 
 .PHONY: run registers test host-test compare
@@ -24,5 +25,6 @@ host-test:
 	@host/test
 
 compare:
-	@host/build compare
+	@host/build compare draw_traces
 	@host/run compare $(STEPS) $(SEED)
+	@host/test_traces $(TRACES) $(SEED)

@@ -2,6 +2,7 @@
 #include "reference.h"
 
 #include <stdbool.h>
+#include <stdio.h>
 #include <string.h>
 
 #if __BYTE_ORDER__ != __ORDER_LITTLE_ENDIAN__
@@ -764,4 +765,83 @@ uint64_t reference_read(const uint8_t *image, size_t image_len, uint32_t number)
     if (asleep(image))
         return number == 32 ? 0x0001F040 : 0;
     return number == 32 ? gsr(image) : get(image, MC + number);
+}
+
+/* ---- traces: three sections, each a count of two bytes and as many events */
+
+#define EVENT_BYTES 16
+#define MOST_EVENTS 1000
+
+static size_t count_at(const uint8_t *section)
+{
+    return (size_t)section[0] | (size_t)section[1] << 8;
+}
+
+/* Mailbox writes, then register writes and options, then anything; the operation alone decides (D55). */
+static bool belongs(int section, uint8_t first_byte)
+{
+    switch (section) {
+    case 0: return first_byte == 1;
+    case 1: return first_byte == 0 || first_byte == 9;
+    default: return true;
+    }
+}
+
+/* How many of these bytes are the section, its count among them; 0 if they do not begin with one. */
+static size_t section_bytes(int section, const uint8_t *bytes, size_t len)
+{
+    size_t count, whole;
+
+    if (len < 2)
+        return 0;
+    count = count_at(bytes);
+    whole = 2 + EVENT_BYTES * count;
+    if (count > MOST_EVENTS || len < whole)
+        return 0;
+    for (size_t at = 2; at < whole; at += EVENT_BYTES)
+        if (!belongs(section, bytes[at]))
+            return 0;
+    return whole;
+}
+
+static bool well_formed(const uint8_t *file, size_t len)
+{
+    for (int section = 0; section < 3; section++) {
+        size_t bytes = section_bytes(section, file, len);
+
+        if (bytes == 0)
+            return false;
+        file += bytes;
+        len -= bytes;
+    }
+    return len == 0;
+}
+
+/* The line of one step, at this place of the listing. Answers its length. */
+static int print_step(char *at, unsigned number, uint64_t answer)
+{
+    unsigned refusal = answer & 0xFF, mailbox = answer >> 8 & 0xFF, count = (unsigned)(answer >> 16);
+
+    return sprintf(at, "%u %u %u %u\n", number, refusal, mailbox, count);
+}
+
+/* The file is judged whole before it is run (D56), and the numbers go through all sections (D57). */
+size_t reference_list(char *listing, const uint8_t *file, size_t file_len)
+{
+    uint8_t image[IMAGE_BYTES];
+    unsigned number = 0;
+    char *at = listing;
+
+    if (!well_formed(file, file_len))
+        return (size_t)sprintf(listing, "trace refused 8\n");
+    at += sprintf(at, "step code mailbox count\n");
+    reference_fresh(image, IMAGE_BYTES);
+    for (int section = 0; section < 3; section++) {
+        size_t count = count_at(file);
+
+        for (file += 2; count > 0; count--, file += EVENT_BYTES)
+            at += print_step(at, ++number, reference_step(image, IMAGE_BYTES, file, EVENT_BYTES));
+    }
+    at += sprintf(at, "end %u\n", number);
+    return (size_t)(at - listing);
 }

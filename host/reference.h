@@ -2,7 +2,7 @@
  * A second implementation of document 01, in plain C, apart from the proved one: it was written from
  * document 01 and docs/DECISIONS.md alone. The tests hold the two against each other.
  *
- * The functions have the signatures and the answers of those in frostsorrel.h.
+ * The first three functions have the signatures and the answers of those in frostsorrel.h.
  */
 #ifndef REFERENCE_H
 #define REFERENCE_H
@@ -13,5 +13,10 @@
 uint64_t reference_fresh(uint8_t *image, size_t image_len);
 uint64_t reference_step(uint8_t *image, size_t image_len, const uint8_t *event, size_t event_len);
 uint64_t reference_read(const uint8_t *image, size_t image_len, uint32_t number);
+
+#define LISTING_ROOM 39034 /* the longest listing (D80), and the 0 that C puts behind it */
+
+/* What the trace program prints for such a file, into a buffer of LISTING_ROOM. Answers its length. */
+size_t reference_list(char *listing, const uint8_t *file, size_t file_len);
 
 #endif
