@@ -17,7 +17,7 @@ use Rattle.refusals.specs.Refusal.{refusal}
 use Rattle.answers.specs.Answer.{refused}
 use Rattle.model.specs.Step.{blockAfter, mailboxesAfter, accepted, step}
 use Rattle.demand2.specs.Demand2.{register, Leaves, Demand2}
-use Rattle.demand2.proofs.Kept.{taken, boxes-after, block-after, step-good}
+use Rattle.model.proofs.Kept.{taken, boxes-after, block-after, step-good}
 use Rattle.demand2.proofs.Stays.{mailboxes-stay, registers-stay}
 
 module _ (s e : List ℕ) (bytes : Bytes s) (small-bytes : Bytes e) (g : goodImage s ≡ true) where
@@ -37,7 +37,7 @@ module _ (s e : List ℕ) (bytes : Bytes s) (small-bytes : Bytes e) (g : goodIma
       let t = taken s e bytes small-bytes g z in
       let b = blockAfter s (event e) in
       ap (λ (x : Block). getD (toWords x) k 0)
-      (block-back (mailboxesAfter s (event e)) b (boxes-after s (event e) t .size) (small b (block-after s (event e) t)))
+      (block-back (mailboxesAfter s (event e)) b (boxes-after s (event e) t .size) (small b (block-after s (event e) t .core) (block-after s (event e) t .waits .most)))
 
   leaves : Leaves s e
   leaves =

@@ -33,7 +33,7 @@ use Rattle.keeps.specs.Touch.{among}
 use Rattle.keeps.proofs.Frame.{patched, unpatched, written-stays}
 use Rattle.model.specs.Step.{own, goes, delivered, acted, blockAfter, startedWith, concluded, stowed, postmarked, rewritten, mailboxesAfter, accepted}
 use Rattle.demand2.specs.Touched.{Outside, storedIn, openedBy, changes, taking, mayChange}
-use Rattle.demand2.proofs.Kept.{Taken}
+use Rattle.model.proofs.Kept.{Taken}
 
 -- ---- the bytes of the mailboxes
 

@@ -1,4 +1,5 @@
 -- Theorems of the match, of the search and of where a frame goes.
 pub mod Matching
+pub mod Rest
 pub mod Search
 pub mod Ways

@@ -6,7 +6,7 @@ use mathlib.Core.List.{List}
 use native.Mathlib.Omega.{arith}
 use lib.Dec.{ltb}
 use lib.Bits.{bitAnd}
-use borrow.Author.Tests.{ltb-true, ltb-false, lt-ltb}
+use borrow.Author.Tests.{ltb-true, ltb-false, lt-ltb, eq-eqb, ne-eqb}
 use Rattle.bits.specs.Bit.{bit}
 use Rattle.bits.specs.Below.{firstBelow}
 use Rattle.bits.proofs.Laws.{bit-and}
@@ -17,7 +17,7 @@ use Rattle.registers.specs.Block.{blockOf}
 use Rattle.mailboxes.specs.Mailbox.{mailboxes, mailboxWord}
 use Rattle.events.specs.declared.Frame.{Frame}
 use Rattle.filter.specs.declared.Found.the-variants.{At, Missing}
-use Rattle.filter.specs.Filter.{candidates, matches, hits, comparedBelow, foundAt, found}
+use Rattle.filter.specs.Filter.{candidates, lastMailbox, maskFor, agreeing, matches, hits, comparedBelow, foundAt, found}
 
 -- ---- Receiving: who is compared: an enabled mailbox, with a data frame only one that receives
 
@@ -62,13 +62,26 @@ module _ (s : List ℕ) (f : Frame) (n : ℕ) where
   unfolding hits
   passed-over h p = rw p at h
 
--- the same two tests, by a block and a word that were loaded
+-- the same two tests, by a block, a mask and a word that were loaded
 module _ (s : List ℕ) (f : Frame) (n : ℕ) (b : Block) (loaded : b ≡ blockOf s) where
   pub compared-by : (pool : ℕ) → pool ≡ candidates b f → bit pool n ≡ isCompared s f n
   compared-by pool e = ap (λ (x : ℕ). bit x n) (e ∙ ap (λ (x : Block). candidates x f) loaded)
 
-  pub matching-by : (w : ℕ) → w ≡ mailboxWord s n 0 → matches b f n w ≡ isMatching s f n
-  matching-by w e = ap (matches b f n) e ∙ ap (λ (x : Block). matches x f n (mailboxWord s n 0)) loaded
+  matching-by : (m w : ℕ) → m ≡ maskFor b n → w ≡ mailboxWord s n 0 → agreeing m f w ≡ isMatching s f n
+  unfolding matches
+  matching-by m w d e =
+      ap (λ (x : ℕ). agreeing x f w) d
+      ∙ ap (agreeing (maskFor b n) f) e
+      ∙ ap (λ (x : Block). agreeing (maskFor x n) f (mailboxWord s n 0)) loaded
+
+  -- by GAM below the last mailbox, by LAM at the last
+  pub matching-by-gam : n < lastMailbox → (w : ℕ) → w ≡ mailboxWord s n 0 → agreeing (b .gam) f w ≡ isMatching s f n
+  matching-by-gam h w e =
+      matching-by (b .gam) w (ap (λ (t : Bool). cond t (b .lam) (b .gam)) (sym (ne-eqb n lastMailbox (λ q. omega arith)))) e
+
+  pub matching-by-lam : n ≡ lastMailbox → (w : ℕ) → w ≡ mailboxWord s n 0 → agreeing (b .lam) f w ≡ isMatching s f n
+  matching-by-lam h w e =
+      matching-by (b .lam) w (ap (λ (t : Bool). cond t (b .lam) (b .gam)) (sym (eq-eqb n lastMailbox h))) e
 
 -- ---- what the search finds is the first mailbox that hits
 

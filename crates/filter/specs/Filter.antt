@@ -28,9 +28,12 @@ lastMailbox = 31
 abbrev pub maskFor : Block → ℕ → ℕ
 maskFor b n = cond (eqb n lastMailbox) (b .lam) (b .gam)
 
--- Receiving: the bits of word 0 that need not agree: those of the mask, at a mailbox whose GAME or LAME bit is up.
+-- Receiving: the bits of word 0, w, that need not agree: those of the mask, at a mailbox whose GAME or LAME bit is up.
+abbrev pub freedBy : ℕ → ℕ → ℕ
+freedBy mask w = cond (maskable w) mask 0
+
 abbrev pub freed : Block → ℕ → ℕ → ℕ
-freed b n w = cond (maskable w) (maskFor b n) 0
+freed b n w = freedBy (maskFor b n) w
 
 -- Receiving: the bits of word 0 that are compared: IDE, and of the identifier the upper 11 bits for a standard frame and all 29
 -- for an extended one.
@@ -41,9 +44,13 @@ compared f = cond (f .ide) 0x9FFFFFFF 0x9FFC0000
 abbrev pub frameWord : Frame → ℕ
 frameWord f = flag (f .ide) 31 + f .id .0
 
--- Receiving: mailbox n, whose word 0 is w, matches the frame: no compared bit differs but those that are freed.
+-- Receiving: word 0, w, agrees with the frame: no compared bit differs but those that the mask frees.
+abbrev pub agreeing : ℕ → Frame → ℕ → Bool
+agreeing mask f w = eqb (without (bitAnd (bitXor w (frameWord f)) (compared f)) (freedBy mask w)) 0
+
+-- Receiving: mailbox n, whose word 0 is w, matches the frame.
 unfoldable pub matches : Block → Frame → ℕ → ℕ → Bool
-matches b f n w = eqb (without (bitAnd (bitXor w (frameWord f)) (compared f)) (freed b n w)) 0
+matches b f n w = agreeing (maskFor b n) f w
 
 -- Receiving: mailbox n is compared with the frame and matches it.
 unfoldable pub hits : List ℕ → Frame → ℕ → Bool

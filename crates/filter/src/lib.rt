@@ -1,9 +1,10 @@
 // Filtering: which mailbox a frame goes to.
 ghost use mathlib.Core.Path.{_≡_};
-ghost use Prim.Native.Nat.{_<_};
+ghost use mathlib.Core.Bool.{false};
+ghost use Prim.Native.Nat.{ℕ, _<_};
 ghost use lib.ListN.{length};
 ghost use Rattle.registers.specs.Block.{imageBytes, blockOf};
-ghost use Rattle.filter.specs.Filter.{candidates as candidatesOf, compared as comparedOf, frameWord, freed as freedOf, matches as matchesOf, found, placed, delivery};
+ghost use Rattle.filter.specs.Filter.{candidates as candidatesOf, compared as comparedOf, frameWord, lastMailbox, agreeing, hits, comparedBelow, found, placed, delivery};
 use events::Frame;
 use registers::Block;
 
@@ -43,39 +44,53 @@ fn frame_word(f: Frame) -> u32
     bits::flag(f.ide, 31) + id.0
 }
 
-// The bits that need not agree at mailbox n, whose word 0 is w.
-fn freed(b: Block, n: u32, w: u32) -> u32
-    ensures { λ r. ⌜ r ≡ freedOf b n w ⌝ }
-{
-    bits::choose(bits::test(w, 30), bits::choose(n == 31, b.lam, b.gam), 0)
-}
-
-// Does mailbox n, whose word 0 is w, match the frame?
-pub fn matches(b: Block, f: Frame, n: u32, w: u32) -> bool
+// Does word 0, w, agree with the frame in every compared bit that the mask does not free?
+fn agrees(mask: u32, f: Frame, w: u32) -> bool
     requires { ⌜ f .id .0 < 536870912 ⌝ }
-    ensures { λ r. ⌜ r ≡ matchesOf b f n w ⌝ }
+    ensures { λ r. ⌜ r ≡ agreeing mask f w ⌝ }
 {
-    bits::without((w ^ frame_word(f)) & compared(f), freed(b, n, w)) == 0
+    let differ = (w ^ frame_word(f)) & compared(f);
+    bits::without(differ, bits::choose(bits::test(w, 30), mask, 0)) == 0
 }
 
-// The search, from mailbox 0 upwards: it stops at the first that matches.
+// Mailbox 31, which has a mask of its own, once those before it do not match.
+fn last(s: &[u8], b: Block, f: Frame, pool: u32, count: u32) -> Found
+    requires { ⌜ (length (now s) ≡ imageBytes) × (b ≡ blockOf (now s)) × (f .id .0 < 536870912) × (pool ≡ candidatesOf b f) × (count ≡ comparedBelow (now s) f lastMailbox) × ((j : ℕ) → j < lastMailbox → hits (now s) f j ≡ false) ⌝ }
+    ensures { λ r. ⌜ r ≡ found (now (s .entry)) f ⌝ }
+{
+    if pool < 0x8000_0000 {
+        return Found::Missing { count };
+    }
+    if agrees(b.lam, f, mailboxes::word(s, 31, 0)) {
+        return Found::At {
+            mailbox: 31,
+            count: count + 1,
+        };
+    }
+    Found::Missing { count: count + 1 }
+}
+
+// The search, from mailbox 0 upwards: it stops at the first that matches. `rest` has the candidates from n on that GAM masks,
+// mailbox n's lowest.
 pub fn find(s: &[u8], b: Block, f: Frame) -> Found
     requires { ⌜ (length (now s) ≡ imageBytes) × (b ≡ blockOf (now s)) × (f .id .0 < 536870912) ⌝ }
     ensures { λ r. ⌜ r ≡ found (now (s .entry)) f ⌝ }
 {
     let pool = candidates(b, f);
+    let mut rest = pool % 0x8000_0000;
     let mut n: u32 = 0;
     let mut count: u32 = 0;
     loop {
-        if n == 32 {
-            break Found::Missing { count };
+        if rest == 0 {
+            break last(s, b, f, pool, count);
         }
-        if bits::test(pool, n) {
+        if rest % 2 == 1 {
             count += 1;
-            if matches(b, f, n, mailboxes::word(s, n as usize, 0)) {
+            if agrees(b.gam, f, mailboxes::word(s, n as usize, 0)) {
                 break Found::At { mailbox: n, count };
             }
         }
+        rest = rest / 2;
         n += 1;
     }
 }

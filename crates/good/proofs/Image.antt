@@ -21,7 +21,7 @@ use Rattle.registers.proofs.Laws.{Small, length-block, bytes-block, word-stays,
 use Rattle.mailboxes.specs.Mailbox.{mailboxes, withMailbox, layout}
 use Rattle.mailboxes.proofs.Laws.{length-with, bytes-with, word-in, word-out}
 use Rattle.good.specs.Good.{contents, goodLayouts, goodSpare, goodImage}
-use Rattle.good.proofs.Facts.{WideBlock, GoodBlock, slot-below, block-facts, block-good}
+use Rattle.good.proofs.Facts.{WideBlock, Core, GoodBlock, slot-below, block-facts, block-good}
 
 -- ---- the facts
 
@@ -83,15 +83,15 @@ fit-at [] f j h = absurd (omega arith)
 fit-at (a ∷ l) f zero h = f .0
 fit-at (a ∷ l) f (suc j) h = fit-at l (f .1) j (omega arith)
 
-pub small : (b : Block) → GoodBlock b → Small b
-small b g =
-    let w = g .core .wide in
-    let l = g .core .low in
-    let r = g .core .ranges in
-    let p = within-le (g .core .rml) in
-    let q = within-le (g .core .rfp) in
+pub small : (b : Block) → Core b → b .waiting ≤ 4 → Small b
+small b g most =
+    let w = g .wide in
+    let l = g .low in
+    let r = g .ranges in
+    let p = within-le (g .rml) in
+    let q = within-le (g .rfp) in
     fit-at (toWords b)
-    (w .mc, (w .md, (omega (arith, l .trs), (omega (arith, l .trr), (omega (arith, l .ta), (omega (arith, l .aa), (w .rmp, (omega (arith, w .rmp, p), (w .lam, (w .gam, (omega (arith, w .rmp, q), (omega (arith, l .cdr), (omega (arith, l .mbtif), (w .mbrif, (w .mbim, (omega (arith, r .gif), (omega (arith, r .gim), (omega (arith, r .bcr1), (omega (arith, r .bcr2), (omega (arith, r .tsc), (omega (arith, r .tec), (omega (arith, r .rec), (omega (arith, r .mode), (omega (arith, g .waits .most), (omega (arith, r .slot), (omega (arith, r .recovery), (omega (arith, r .options), (omega (arith, r .tso), (lit< tt, (lit< tt, (lit< tt, (lit< tt, tt))))))))))))))))))))))))))))))))
+    (w .mc, (w .md, (omega (arith, l .trs), (omega (arith, l .trr), (omega (arith, l .ta), (omega (arith, l .aa), (w .rmp, (omega (arith, w .rmp, p), (w .lam, (w .gam, (omega (arith, w .rmp, q), (omega (arith, l .cdr), (omega (arith, l .mbtif), (w .mbrif, (w .mbim, (omega (arith, r .gif), (omega (arith, r .gim), (omega (arith, r .bcr1), (omega (arith, r .bcr2), (omega (arith, r .tsc), (omega (arith, r .tec), (omega (arith, r .rec), (omega (arith, r .mode), (omega arith, (omega (arith, r .slot), (omega (arith, r .recovery), (omega (arith, r .options), (omega (arith, r .tso), (lit< tt, (lit< tt, (lit< tt, (lit< tt, tt))))))))))))))))))))))))))))))))
 
 -- ---- 16 other bytes in the place of a mailbox
 
@@ -135,7 +135,7 @@ module _ (s : List ℕ) (n : ℕ) (m : List ℕ) (g : GoodImage s) (hn : n < mai
 
 module _ (s : List ℕ) (b : Block) (byte : Bytes s) (size : length s ≡ imageBytes) (layouts : (n : ℕ) → n < mailboxes → layout s n ≡ true) (ok : GoodBlock b) where
   back : (k : ℕ) → k < 32 → wordAt (putBlock s b) (registersAt + 4 * k) ≡ getD (toWords b) k 0
-  back = word-back s b size (small b ok)
+  back = word-back s b size (small b (ok .core) (ok .waits .most))
 
   pub block-kept : GoodImage (putBlock s b)
   unfolding goodSpare layout
@@ -147,5 +147,5 @@ module _ (s : List ℕ) (b : Block) (byte : Bytes s) (size : length s ≡ imageB
             λ j h.
             rw (word-stays s b (16 * j + 4 * 0) (omega arith), word-stays s b (16 * j + 4 * 1) (omega arith)) (layouts j h);
         spare = rw (back 28 (lit< tt), back 29 (lit< tt), back 30 (lit< tt), back 31 (lit< tt));
-        block = rw (block-back s b size (small b ok)) ok;
+        block = rw (block-back s b size (small b (ok .core) (ok .waits .most))) ok;
       }

@@ -1,3 +1,4 @@
 -- Good images by their facts.
 pub mod Facts
 pub mod Image
+mod Stretches

@@ -1,2 +1,3 @@
 -- What makes an image good.
 pub mod Good
+pub mod Sums

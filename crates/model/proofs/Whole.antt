@@ -1,13 +1,11 @@
 -- What a step knows of its image and of its event.
 use Prim.Native.Nat.{ℕ, _≤_}
-use mathlib.Core.Path.{_≡_, refl}
-use mathlib.Core.Bool.{Bool, true, false}
+use mathlib.Core.Path.{_≡_, refl, sym}
+use mathlib.Core.Bool.{Bool, true, false, false≢true}
 use mathlib.Core.List.{List}
 use mathlib.Core.Logic.{_⊎_, inl, inr}
 use native.Mathlib.Omega.{arith}
 use Rattle.words.proofs.Bytes.{Bytes}
-use Rattle.registers.specs.declared.Block.{Block}
-use Rattle.registers.specs.Block.{blockOf}
 use Rattle.events.specs.declared.Event.{Event}
 use Rattle.events.specs.declared.Event.the-variants.{Refused, Register, Mailbox, Heard, Start, Outcome, ReceiveError, Recessive, Tick, Mode, Options, Reset}
 use Rattle.events.specs.Decode.{event, decoded}
@@ -16,52 +14,43 @@ use Rattle.events.proofs.Allowed.{decoded-allowed}
 use Rattle.good.specs.Good.{goodImage}
 use Rattle.good.proofs.Image.{image-facts}
 use Rattle.refusals.specs.Refusal.{remaining, Fitting}
-use Rattle.model.specs.Ready.{Loaded, Sized}
+use Rattle.model.specs.Parts.{Loaded, Sized}
 
-pub loaded : (s : List ℕ) (b : Block) → Bytes s → goodImage s ≡ true → b ≡ blockOf s → Loaded s b
-loaded s b h g l =
+pub loaded : (s : List ℕ) → Bytes s → goodImage s ≡ true → Loaded s
+loaded s h g =
     let f = image-facts s h g in
     let r = f .block .core .ranges in
-    rw l
-    (record {
-      size = f .size;
-      block = refl;
-      slot = omega (arith, r .slot);
-      tsc = r .tsc;
-      tec = r .tec;
-      rec = r .rec;
-      recovery = r .recovery;
-    })
+    record { size = f .size; slot = omega (arith, r .slot); tsc = r .tsc; tec = r .tec; rec = r .rec; recovery = r .recovery }
 
 module _ (a : Bool) (e : List ℕ) (b : Bytes e) where
-  pub sized : Sized (decoded a e)
+  pub sized : isRefused (decoded a e) ≡ false → Sized (decoded a e)
   sized = at (decoded a e) refl
     where
       small : (v : ℕ) → ((v ≡ 1) ⊎ (v ≡ 8)) → v ≤ 8
       small v (inl h) = omega arith
       small v (inr h) = omega arith
 
-      at : (v : Event) → decoded a e ≡ v → Sized v
-      at (Refused r) h = tt
-      at (Register t v) h = tt
-      at (Mailbox n k v) h = let x = decoded-allowed a e (Mailbox n k v) b h refl in (x .known, x .wordKnown)
-      at (Heard f) h = let x = decoded-allowed a e (Heard f) b h refl in record { id = x .identifier; dlc = omega (arith, x .short) }
-      at Start h = tt
-      at (Outcome k) h = tt
-      at (ReceiveError v) h = small v (decoded-allowed a e (ReceiveError v) b h refl)
-      at Recessive h = tt
-      at Tick h = tt
-      at (Mode m) h = tt
-      at (Options v) h = tt
-      at Reset h = tt
+      at : (v : Event) → decoded a e ≡ v → isRefused v ≡ false → Sized v
+      at (Refused r) h n = false≢true (sym n)
+      at (Register t v) h n = tt
+      at (Mailbox m k v) h n = let x = decoded-allowed a e (Mailbox m k v) b h refl in (x .known, x .wordKnown)
+      at (Heard f) h n = let x = decoded-allowed a e (Heard f) b h refl in record { id = x .identifier; dlc = omega (arith, x .short) }
+      at Start h n = tt
+      at (Outcome k) h n = tt
+      at (ReceiveError v) h n = small v (decoded-allowed a e (ReceiveError v) b h refl)
+      at Recessive h n = tt
+      at Tick h n = tt
+      at (Mode m) h n = tt
+      at (Options v) h n = tt
+      at Reset h n = tt
 
   pub fitting : Fitting (decoded a e)
-  fitting = at (decoded a e) sized
+  fitting = at (decoded a e) refl
     where
-      at : (v : Event) → Sized v → Fitting v
+      at : (v : Event) → decoded a e ≡ v → Fitting v
       at (Refused r) h = tt
       at (Register t v) h = tt
-      at (Mailbox n k v) h = h .0
+      at (Mailbox n k v) h = decoded-allowed a e (Mailbox n k v) b h refl .known
       at (Heard f) h = tt
       at Start h = tt
       at (Outcome k) h = tt

@@ -1,3 +1,3 @@
 -- The step.
 pub mod Step
-pub mod Ready
+pub mod Parts

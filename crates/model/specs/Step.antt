@@ -159,16 +159,6 @@ unfoldable pub accepted : List ℕ → Event → Result
 accepted s e =
     record { image = putBlock (mailboxesAfter s e) (blockAfter s e); refusal = 0; mailbox = named s e; count = countOf (goes s e) }
 
--- The same for a frame, once it is known where it goes.
-unfoldable pub deliveredOutcome : List ℕ → Frame → Delivery → Result
-deliveredOutcome s f d =
-    record {
-      image = putBlock (stowed s f d) (settled (risen (blockOf s) (delivered (listened (blockOf s)) (f .rtr) d)));
-      refusal = 0;
-      mailbox = namedBy d;
-      count = countOf d;
-    }
-
 -- The step of any image and any event bytes: refused, with every byte as it came, or accepted.
 unfoldable pub step : List ℕ → List ℕ → Result
 step s e = cond (eqb (refusal s e) 0) (accepted s (event e)) (refused s (refusal s e))

@@ -1,15 +1,21 @@
 -- The block that was put into an image is read back, and nothing else of the image moves.
 use Prim.Native.Nat.{ℕ, _+_, _*_, _^_, _<_, _≤_}
-use mathlib.Core.Path.{_≡_, _∙_}
+use mathlib.Core.Path.{_≡_, refl, _∙_}
 use mathlib.Core.List.{List}
 use native.Mathlib.Omega.{arith}
 use lib.Dec.{lit<}
 use lib.ListN.{getD, length}
 use Rattle.words.specs.Word.{wordAt, wordsOf}
 use Rattle.words.proofs.Rows.{word-of, word-of-put, before-put, byte-before-put, length-put-words}
+use Rattle.words.proofs.Again.{put-again}
 use Rattle.words.proofs.Bytes.{Bytes, bytes-words}
 use Rattle.registers.specs.declared.Block.{Block}
 use Rattle.registers.specs.Block.{imageBytes, registersAt, blockOf, putBlock, toWords}
+
+-- of two blocks that are put the last one stands
+pub put-block-again : (s : List ℕ) (a b : Block) → putBlock (putBlock s a) b ≡ putBlock s b
+unfolding putBlock
+put-block-again s a b = put-again s registersAt (toWords a) (toWords b) refl
 
 -- every word of the block fits its four bytes
 abbrev pub Small : Block → Type 0

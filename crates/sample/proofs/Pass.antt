@@ -20,7 +20,7 @@ use Rattle.refusals.specs.Refusal.{refusal, remaining}
 use Rattle.refusals.proofs.Order.{refusal-good}
 use Rattle.answers.specs.Answer.{refused}
 use Rattle.model.specs.Step.{blockAfter, mailboxesAfter, accepted, step}
-use Rattle.demand2.proofs.Kept.{step-good}
+use Rattle.model.proofs.Kept.{step-good}
 use Rattle.books.specs.Ledger.{Happening}
 use Rattle.books.specs.Happen.{happens, happenings, history}
 

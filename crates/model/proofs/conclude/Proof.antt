@@ -1,14 +1,14 @@
 use mathlib.Core.Path.{refl, sym, _∙_, ap, ap₂}
-use mathlib.Core.Bool.{cond}
-use mathlib.Core.List.{List}
-use lib.Dec.{eqb}
-use Prim.Native.Nat.{ℕ}
 use Rattle.registers.specs.declared.Block.{Block}
-use Rattle.registers.specs.Block.{putBlock}
-use Rattle.registers.specs.Modes.{risen, settled}
+use Rattle.registers.specs.Block.{blockOf, putBlock}
+use Rattle.registers.specs.Modes.{risen}
 use Rattle.events.specs.declared.Event.the-variants.{Outcome}
+use mathlib.Core.Bool.{cond}
+use lib.Dec.{eqb}
+use Rattle.answers.specs.Answer.{packed}
 use Rattle.model.specs.Step.{concluded, postmarked, own, goes, mailboxesAfter, named}
-use Rattle.model.proofs.Meets.{meets}
+use Rattle.model.proofs.Meets.{acts}
+use Rattle.model.proofs.Beside.{postmarked-beside}
 use borrow.Author.Needs.{needs}
 use Rattle.model.proofs.conclude.Statement.{statement}
 use Rattle.model.proofs.conclude.Tie as tie
@@ -16,11 +16,19 @@ use Rattle.model.proofs.conclude.Tie as tie
 postmark-requires : tie.Need-postmark-requires
 postmark-requires c κs = search needs
 
-concluded-requires : tie.Need-concluded-requires
-concluded-requires c κs = search needs
+load-requires : tie.Need-load-requires
+load-requires c κs = search needs
 
-finish-requires : tie.Need-finish-requires
-finish-requires c κs = search needs
+concluded-requires : tie.Need-concluded-requires
+concluded-requires c κs =
+    let beside = postmarked-beside (c .before .before .before .before .before .before .before .args .image .now) (c .before .before .before .before .before .before .before .args .kind) (c .before .before .before .before .before .before .before .pre) in
+    rw (c .load .ensures ∙ ap blockOf (c .before .before .before .before .postmark .ensures) ∙ beside .block) (c .before .before .before .before .before .before .before .pre .slot, c .before .before .before .before .before .before .before .pre .tec)
+
+rise-requires : tie.Need-rise-requires
+rise-requires c κs = search needs
+
+store-requires : tie.Need-store-requires
+store-requires c κs = search needs
 
 pack-requires : tie.Need-pack-requires
 pack-requires c κs = search needs
@@ -31,22 +39,24 @@ same-length c = search needs
 returns : tie.Need-returns
 unfolding own goes mailboxesAfter named
 returns c =
-    let s = c .before .before .before .before .before .before .before .before .before .before .before .args .image .now in
-    let b = c .before .before .before .before .before .before .before .before .before .before .before .args .b in
-    let k = c .before .before .before .before .before .before .before .before .before .before .before .args .kind in
-    let l = c .before .before .before .before .before .before .before .before .before .before .before .pre .block in
-    meets s b l (Outcome k) (concluded b k) (cond (eqb k 0) (postmarked s) s) (b .slot) (ap (λ (x : Block). concluded x k) (sym l)) refl refl
-    (ap (λ (x : Block). x .slot) (sym l))
-    (c .before .before .before .finish .ensures ∙ ap₂ (λ (x : List ℕ) (y : Block). putBlock x (settled (risen b y))) (c .before .before .before .before .before .before .before .before .postmark .ensures) (c .before .before .before .before .concluded .ensures))
-    (c .pack .ensures)
+    let s = c .before .before .before .before .before .before .before .before .before .before .before .before .before .before .args .image .now in
+    let k = c .before .before .before .before .before .before .before .before .before .before .before .before .before .before .args .kind in
+    let boxes = c .before .before .before .before .before .before .before .before .before .before .before .postmark .ensures in
+    let b = c .before .before .before .before .before .before .before .load .result in
+    let l = c .before .before .before .before .before .before .before .load .ensures ∙ ap blockOf boxes ∙ postmarked-beside s k (c .before .before .before .before .before .before .before .before .before .before .before .before .before .before .pre) .block in
+    acts s b l (Outcome k) (concluded b k) (cond (eqb k 0) (postmarked s) s) (blockOf s .slot) (ap (λ (y : Block). concluded y k) (sym l)) refl refl refl
+    (c .before .before .before .store .ensures ∙ ap₂ putBlock boxes (c .before .before .before .before .before .rise .ensures ∙ ap (risen b) (c .before .before .before .before .before .before .concluded .ensures)))
+    (c .pack .ensures ∙ ap (λ (y : Block). packed 0 (y .slot) 0) l)
 
 pub conclude-spec : {M : Type 1} → statement M
 conclude-spec =
     tie.close
     (tie.spec
     postmark-requires
+    load-requires
     concluded-requires
-    finish-requires
+    rise-requires
+    store-requires
     pack-requires
     same-length
     returns)

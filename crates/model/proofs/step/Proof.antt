@@ -10,7 +10,8 @@ use Rattle.refusals.specs.Refusal.{refusal, remaining}
 use Rattle.refusals.proofs.Order.{refusal-bad, refusal-good}
 use Rattle.model.specs.Step.{step}
 use Rattle.model.proofs.Meets.{as-case}
-use Rattle.model.proofs.Whole.{loaded, sized, fitting, real}
+use Rattle.model.proofs.Whole.{loaded, sized, fitting, unrefused, real}
+use Rattle.model.proofs.Ends.{ends}
 use borrow.Author.Needs.{needs}
 use Rattle.model.proofs.step.Statement.{statement}
 use Rattle.model.proofs.step.Tie as tie
@@ -76,7 +77,14 @@ act-requires c κs =
     let g = sym (c .before .before .before .before .before .before .before .before .before .good-image .ensures) ∙ not-false _ (c .before .before .before .before .before .before .before .before .if1 .left) in
     let bytes : Bytes e = record { small = λ i. omega (arith, c .before .before .before .before .before .before .before .before .before .before .before .shared-slice-known .given i) } in
     let own : Bytes s = record { small = λ i. omega (arith, c .before .before .before .before .before .before .before .before .before .before .before .before .slice-known .given i) } in
-    (loaded s (c .before .before .before .before .before .before .load .result) own g (c .before .before .before .before .before .before .load .ensures), rw (c .before .before .before .before .decode .ensures) (sized (c .before .before .before .before .before .is-asleep .result) e bytes))
+    let a = c .before .before .before .before .before .is-asleep .result in
+    let z : remaining s (decoded a e) ≡ 0 = ap (remaining s) (sym (c .before .before .before .before .decode .ensures)) ∙ sym (c .before .before .remaining-refusal .ensures) ∙ c .before .if2 .left in
+    (loaded s own g, rw (c .before .before .before .before .decode .ensures) (sized a e bytes (unrefused s a e z)))
+
+settle-requires : tie.Need-settle-requires
+settle-requires c κs =
+    let g = sym (c .before .before .before .before .before .before .before .before .before .before .before .before .before .good-image .ensures) ∙ not-false _ (c .before .before .before .before .before .before .before .before .before .before .before .before .if1 .left) in
+    c .before .before .before .act .kept .0 ∙ good-length _ g
 
 same-length-3 : tie.Need-same-length-3
 same-length-3 c = search needs
@@ -84,14 +92,19 @@ same-length-3 c = search needs
 returns-3 : tie.Need-returns-3
 unfolding step
 returns-3 c =
-    let s = c .before .before .before .before .before .before .before .before .before .before .before .before .before .before .before .before .args .image .now in
-    let e = c .before .before .before .before .before .before .before .before .before .before .before .before .before .before .before .before .args .event .now in
-    let g = sym (c .before .before .before .before .before .before .before .before .before .before .before .before .good-image .ensures) ∙ not-false _ (c .before .before .before .before .before .before .before .before .before .before .before .if1 .left) in
-    let a = c .before .before .before .before .before .before .before .before .is-asleep .ensures ∙ ap asleep (c .before .before .before .before .before .before .before .before .before .load .ensures) in
-    let z : remaining s (decoded (c .before .before .before .before .before .before .before .before .is-asleep .result) e) ≡ 0 =
-    ap (remaining s) (sym (c .before .before .before .before .before .before .before .decode .ensures)) ∙ sym (c .before .before .before .before .before .remaining-refusal .ensures) ∙ c .before .before .before .before .if2 .left in
-    let r : refusal s e ≡ 0 = refusal-good s e g ∙ ap (λ (t : Bool). remaining s (decoded t e)) (sym a) ∙ z in
-    rw r (as-case s (event e) (c .before .before .before .before .before .before .before .decode .result) (sym (c .before .before .before .before .before .before .before .decode .ensures ∙ real s (c .before .before .before .before .before .before .before .before .is-asleep .result) e z)) (c .before .before .act .ensures))
+    let s = c .before .before .before .before .before .before .before .before .before .before .before .before .before .before .before .before .before .before .before .before .args .image .now in
+    let e = c .before .before .before .before .before .before .before .before .before .before .before .before .before .before .before .before .before .before .before .before .args .event .now in
+    let g = sym (c .before .before .before .before .before .before .before .before .before .before .before .before .before .before .before .before .good-image .ensures) ∙ not-false _ (c .before .before .before .before .before .before .before .before .before .before .before .before .before .before .before .if1 .left) in
+    let bytes : Bytes e = record { small = λ i. omega (arith, c .before .before .before .before .before .before .before .before .before .before .before .before .before .before .before .before .before .before .shared-slice-known .given i) } in
+    let own : Bytes s = record { small = λ i. omega (arith, c .before .before .before .before .before .before .before .before .before .before .before .before .before .before .before .before .before .before .before .slice-known .given i) } in
+    let a = c .before .before .before .before .before .before .before .before .before .before .before .before .is-asleep .result in
+    let z : remaining s (decoded a e) ≡ 0 = ap (remaining s) (sym (c .before .before .before .before .before .before .before .before .before .before .before .decode .ensures)) ∙ sym (c .before .before .before .before .before .before .before .before .before .remaining-refusal .ensures) ∙ c .before .before .before .before .before .before .before .before .if2 .left in
+    let r : refusal s e ≡ 0 =
+    refusal-good s e g ∙ ap (λ (t : Bool). remaining s (decoded t e)) (sym (c .before .before .before .before .before .before .before .before .before .before .before .before .is-asleep .ensures ∙ ap asleep (c .before .before .before .before .before .before .before .before .before .before .before .before .before .load .ensures))) ∙ z in
+    rw r
+    (ends s e own bytes g r
+    (as-case s (event e) (c .before .before .before .before .before .before .before .before .before .before .before .decode .result) (sym (c .before .before .before .before .before .before .before .before .before .before .before .decode .ensures ∙ real s a e z)) (c .before .before .before .before .before .before .act .ensures))
+    (c .before .before .settle .ensures))
 
 pub step-spec : {M : Type 1} → statement M
 step-spec =
@@ -109,5 +122,6 @@ step-spec =
     same-length-2
     returns-2
     act-requires
+    settle-requires
     same-length-3
     returns-3)

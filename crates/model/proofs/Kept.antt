@@ -92,7 +92,7 @@ module _ (s : List ℕ) where
   concludes (suc (suc zero)) h g f = failed-open g f 8
   concludes (suc (suc (suc k))) h g f = absurd (omega arith)
 
-  acted-open : (v : Event) → Taken s v → Open (acted s v)
+  pub acted-open : (v : Event) → Taken s v → Open (acted s v)
   unfolding own goes delivered remaining
   acted-open (Refused r) t = absurd (t .fair)
   acted-open (Register r v) t =

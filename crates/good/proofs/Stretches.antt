@@ -1,0 +1,113 @@
+-- The sums by which many layouts are judged at once.
+use Prim.Native.Nat.{ℕ, _+_, _-_, _*_, _/_, _%_, _^_, _<_, _≤_}
+use mathlib.Core.Path.{_≡_, refl, sym, _∙_, ap}
+use mathlib.Core.Bool.{Bool, true, false, _&&_, _||_, false≢true}
+use native.Mathlib.Nat.{lt-of-le-of-lt}
+use native.Mathlib.Omega.{arith}
+use lib.Dec.{eqb, ltb, leb}
+use lib.Bits.{bitOr, or-lt}
+use borrow.Author.Tests.{eqb-true, eqb-false, ltb-true, ltb-false, leb-true, leb-false, lt-ltb, le-ltb}
+use Rattle.bits.specs.Bit.{digit, bit}
+use Rattle.bits.specs.Below.{allBelow}
+use Rattle.bits.proofs.Below.{each-below}
+use Rattle.bits.proofs.Sets.{both, and-l, and-r, within-le, or-within-l, or-within-r}
+use Rattle.good.specs.Sums.{Stretch}
+
+-- ---- one word
+
+pub identifier-test : (w : ℕ) → w < 2 ^ 32 → ltb (w % 262144 + (1 - w / 2147483648) * 2147483648 + 2147483647) 4294967296 ≡ (bit w 31 || eqb (w % 262144) 0)
+unfolding digit
+identifier-test w h = at (bit w 31) refl (eqb (w % 262144) 0) refl
+  where
+    at : (t : Bool) → bit w 31 ≡ t → (u : Bool) → eqb (w % 262144) 0 ≡ u → ltb (w % 262144 + (1 - w / 2147483648) * 2147483648 + 2147483647) 4294967296 ≡ (t || u)
+    at true p u q =
+        let d : w / 2147483648 % 2 ≡ 1 = eqb-true _ _ p in
+        let l : w % 262144 + (1 - w / 2147483648) * 2147483648 + 2147483647 < 4294967296 = omega arith in
+        lt-ltb _ _ l
+    at false p true q =
+        let e : w % 262144 ≡ 0 = eqb-true _ _ q in
+        let l : w % 262144 + (1 - w / 2147483648) * 2147483648 + 2147483647 < 4294967296 = omega arith in
+        lt-ltb _ _ l
+    at false p false q =
+        let d : w / 2147483648 % 2 ≡ 1 → ⊥ = eqb-false _ _ p in
+        let e : w % 262144 ≡ 0 → ⊥ = eqb-false _ _ q in
+        let l : 4294967296 ≤ w % 262144 + (1 - w / 2147483648) * 2147483648 + 2147483647 = omega arith in
+        le-ltb _ _ l
+
+pub control-test : (w : ℕ) → ltb (w % 16 + w / 32 % 2048 * 32 + 65527) 65536 ≡ (eqb (w / 32 % 2048) 0 && leb (w % 16) 8)
+control-test w = at (eqb (w / 32 % 2048) 0) refl (leb (w % 16) 8) refl
+  where
+    at : (t : Bool) → eqb (w / 32 % 2048) 0 ≡ t → (u : Bool) → leb (w % 16) 8 ≡ u → ltb (w % 16 + w / 32 % 2048 * 32 + 65527) 65536 ≡ (t && u)
+    at false p u q =
+        let d : w / 32 % 2048 ≡ 0 → ⊥ = eqb-false _ _ p in
+        let l : 65536 ≤ w % 16 + w / 32 % 2048 * 32 + 65527 = omega arith in
+        le-ltb _ _ l
+    at true p true q =
+        let d : w / 32 % 2048 ≡ 0 = eqb-true _ _ p in
+        let e : w % 16 ≤ 8 = leb-true _ _ q in
+        let l : w % 16 + w / 32 % 2048 * 32 + 65527 < 65536 = omega arith in
+        lt-ltb _ _ l
+    at true p false q =
+        let d : w / 32 % 2048 ≡ 0 = eqb-true _ _ p in
+        let e : 8 < w % 16 = leb-false _ _ q in
+        let l : 65536 ≤ w % 16 + w / 32 % 2048 * 32 + 65527 = omega arith in
+        le-ltb _ _ l
+
+-- ---- two sums
+
+-- two tests that hold together
+same-test : (a b : Bool) → (a ≡ true → b ≡ true) → (b ≡ true → a ≡ true) → a ≡ b
+same-test true b f g = sym (f refl)
+same-test false true f g = g refl
+same-test false false f g = refl
+
+-- `|` stays below a power of two where both numbers do
+pub or-ltb : (k a b : ℕ) → ltb (bitOr a b) (2 ^ k) ≡ (ltb a (2 ^ k) && ltb b (2 ^ k))
+or-ltb k a b =
+    same-test (ltb (bitOr a b) (2 ^ k)) (ltb a (2 ^ k) && ltb b (2 ^ k))
+    (λ h. both _ _
+    (lt-ltb _ _ (lt-of-le-of-lt (within-le (or-within-l a b)) (ltb-true _ _ h)))
+    (lt-ltb _ _ (lt-of-le-of-lt (within-le (or-within-r a b)) (ltb-true _ _ h))))
+    (λ h. lt-ltb _ _ (or-lt k a b (ltb-true _ _ (and-l (ltb a (2 ^ k)) (ltb b (2 ^ k)) h)) (ltb-true _ _ (and-r (ltb a (2 ^ k)) (ltb b (2 ^ k)) h))))
+
+pub interchange : (a b c d : Bool) → ((a && b) && (c && d)) ≡ ((a && c) && (b && d))
+interchange true true c d = refl
+interchange true false true d = refl
+interchange true false false d = refl
+interchange false b c d = refl
+
+-- ---- stretches
+
+pub alone : (p : ℕ → Bool) (n : ℕ) (t : Bool) → t ≡ p n → Stretch p n (n + 1) t
+alone p n t h = (
+  λ q i l k.
+      let e : n ≡ i = omega arith in
+      ap p (sym e) ∙ sym h ∙ q,
+  λ f. h ∙ f n (omega arith) (omega arith),
+)
+
+pub joins : (p : ℕ → Bool) (a m d e : ℕ) (t u r : Bool) → a ≤ m → m ≤ d → e ≡ d → r ≡ (t && u) → Stretch p a m t → Stretch p m d u → Stretch p a e r
+joins p a m d e t u r h k w c x y = (
+  λ q i l j. at (sym c ∙ q) i l j (ltb i m) refl,
+  λ f. c ∙ both t u (x .1 (λ i l j. f i l (omega arith))) (y .1 (λ i l j. f i (omega arith) (omega arith))),
+)
+  where
+    at : (t && u) ≡ true → (i : ℕ) → a ≤ i → i < e → (b : Bool) → ltb i m ≡ b → p i ≡ true
+    at q i l j true z = x .0 (and-l t u q) i l (ltb-true i m z)
+    at q i l j false z = y .0 (and-r t u q) i (ltb-false i m z) (omega arith)
+
+-- from what holds below n to what holds below e
+pub grown : (p : ℕ → Bool) (n e : ℕ) (t : Bool) → Stretch p n e t → t ≡ true → ((i : ℕ) → i < n → p i ≡ true) → (i : ℕ) → i < e → p i ≡ true
+grown p n e t x q f i h = at (ltb i n) refl
+  where
+    at : (b : Bool) → ltb i n ≡ b → p i ≡ true
+    at true z = f i (ltb-true i n z)
+    at false z = x .0 q i (ltb-false i n z) h
+
+-- a stretch that does not hold
+pub spoilt : (p : ℕ → Bool) (n a e : ℕ) (t : Bool) → Stretch p a e t → e ≤ n → t ≡ false → allBelow p n ≡ false
+spoilt p n a e t x h q = at (allBelow p n) refl
+  where
+    at : (b : Bool) → allBelow p n ≡ b → allBelow p n ≡ false
+    at true z = absurd (false≢true (sym q ∙ x .1 (λ i l k. each-below p n z i (omega arith))))
+    at false z = z

@@ -1,0 +1,49 @@
+use mathlib.Core.Path.{refl, sym, _∙_, ap}
+use Rattle.registers.specs.Block.{putBlock}
+use Rattle.registers.specs.Modes.{ticked, risen}
+use Rattle.events.specs.declared.Event.the-variants.{Tick}
+use Rattle.model.specs.Step.{own, goes, mailboxesAfter, named}
+use Rattle.model.proofs.Meets.{acts}
+use borrow.Author.Needs.{needs}
+use Rattle.model.proofs.tick.Statement.{statement}
+use Rattle.model.proofs.tick.Tie as tie
+
+load-requires : tie.Need-load-requires
+load-requires c κs = search needs
+
+tick-requires : tie.Need-tick-requires
+tick-requires c κs = rw (c .load .ensures) (c .before .before .before .pre .tsc)
+
+rise-requires : tie.Need-rise-requires
+rise-requires c κs = search needs
+
+store-requires : tie.Need-store-requires
+store-requires c κs = search needs
+
+pack-requires : tie.Need-pack-requires
+pack-requires c κs = search needs
+
+same-length : tie.Need-same-length
+same-length c = search needs
+
+returns : tie.Need-returns
+unfolding own goes mailboxesAfter named
+returns c =
+    let s = c .before .before .before .before .before .before .before .before .before .before .args .image .now in
+    let b = c .before .before .before .before .before .before .before .load .result in
+    let l = c .before .before .before .before .before .before .before .load .ensures in
+    acts s b l Tick (ticked b) s 32 (ap ticked (sym l)) refl refl refl
+    (c .before .before .before .store .ensures ∙ ap (putBlock s) (c .before .before .before .before .before .rise .ensures ∙ ap (risen b) (c .before .before .before .before .before .before .tick .ensures)))
+    (c .pack .ensures)
+
+pub tick-spec : {M : Type 1} → statement M
+tick-spec =
+    tie.close
+    (tie.spec
+    load-requires
+    tick-requires
+    rise-requires
+    store-requires
+    pack-requires
+    same-length
+    returns)
