@@ -2,4 +2,5 @@
 pub mod Matching
 pub mod Rest
 pub mod Search
+pub mod Walk
 pub mod Ways

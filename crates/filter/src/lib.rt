@@ -70,8 +70,8 @@ fn last(s: &[u8], b: Block, f: Frame, pool: u32, count: u32) -> Found
     Found::Missing { count: count + 1 }
 }
 
-// The search, from mailbox 0 upwards: it stops at the first that matches. `rest` has the candidates from n on that GAM masks,
-// mailbox n's lowest.
+// The search, from mailbox 0 upwards, two mailboxes a turn: it stops at the first that matches. `rest` has the candidates from
+// n on that GAM masks, mailbox n's lowest.
 pub fn find(s: &[u8], b: Block, f: Frame) -> Found
     requires { ⌜ (length (now s) ≡ imageBytes) × (b ≡ blockOf (now s)) × (f .id .0 < 536870912) ⌝ }
     ensures { λ r. ⌜ r ≡ found (now (s .entry)) f ⌝ }
@@ -90,8 +90,17 @@ pub fn find(s: &[u8], b: Block, f: Frame) -> Found
                 break Found::At { mailbox: n, count };
             }
         }
-        rest = rest / 2;
-        n += 1;
+        if rest / 2 % 2 == 1 {
+            count += 1;
+            if agrees(b.gam, f, mailboxes::word(s, n as usize + 1, 0)) {
+                break Found::At {
+                    mailbox: n + 1,
+                    count,
+                };
+            }
+        }
+        rest = rest / 4;
+        n += 2;
     }
 }
 

@@ -6,9 +6,9 @@ use lib.Dec.{lit<}
 use lib.ListN.{getD, length, replicate, length-replicate}
 use Rattle.bits.specs.Bit.{digit}
 use Rattle.words.specs.Word.{wordAt}
-use Rattle.registers.specs.Block.{imageBytes}
+use Rattle.registers.specs.Block.{imageBytes, registersAt}
 use Rattle.mailboxes.specs.Mailbox.{layout}
-use Rattle.good.specs.Good.{goodFlags, goodNumbers, goodSlot, goodBlock, goodImage}
+use Rattle.good.specs.Good.{goodFlags, goodNumbers, goodSlot, goodBlock, goodSpare, goodImage}
 use Rattle.good.proofs.Facts.{GoodBlock, block-facts}
 use Rattle.good.proofs.Image.{GoodImage, block-kept, image-good}
 use Rattle.fresh.specs.Fresh.{freshBlock, zeroImage, freshImage}
@@ -39,6 +39,11 @@ zero-layout : (j : ℕ) → layout zeroImage j ≡ true
 unfolding layout digit
 zero-layout j = rw (zero-word (16 * j + 4 * 0), zero-word (16 * j + 4 * 1))
 
+zero-spare : goodSpare zeroImage ≡ true
+unfolding goodSpare
+zero-spare =
+    rw (zero-word (registersAt + 4 * 28), zero-word (registersAt + 4 * 29), zero-word (registersAt + 4 * 30), zero-word (registersAt + 4 * 31))
+
 pub fresh-block : GoodBlock freshBlock
 unfolding freshBlock goodBlock goodFlags goodNumbers goodSlot digit
 fresh-block =
@@ -53,6 +58,7 @@ fresh-facts =
     (record { small = λ i. rw (zero-image-byte i) (lit< tt) })
     zero-length
     (λ n h. zero-layout n)
+    zero-spare
     fresh-block
 
 pub fresh-good : goodImage freshImage ≡ true

@@ -5,7 +5,7 @@ use mathlib.Core.Bool.{Bool, true, false}
 use mathlib.Core.List.{List, [], _∷_}
 use mathlib.Core.Logic.{inl, inr}
 use native.Mathlib.Omega.{arith}
-use lib.Dec.{eqb, ltb, lit<, lit≤}
+use lib.Dec.{eqb, ltb, lit≤}
 use lib.ListN.{getD, length}
 use borrow.Author.Tests.{eqb-true, eq-eqb, ltb-true, ltb-false}
 use Rattle.bits.proofs.Sets.{both, and-l, and-r, within-le}
@@ -17,7 +17,7 @@ use Rattle.words.proofs.Rows.{words-same}
 use Rattle.words.proofs.Bytes.{Bytes, word-lt}
 use Rattle.registers.specs.declared.Block.{Block}
 use Rattle.registers.specs.Block.{imageBytes, registersAt, blockOf, putBlock, ofWords, toWords}
-use Rattle.registers.proofs.Laws.{Small, length-block, bytes-block, word-stays, word-back, block-back}
+use Rattle.registers.proofs.Laws.{Small, length-block, bytes-block, word-stays, spare-stays, block-back}
 use Rattle.mailboxes.specs.Mailbox.{mailboxes, withMailbox, layout}
 use Rattle.mailboxes.proofs.Laws.{length-with, bytes-with, word-in, word-out}
 use Rattle.good.specs.Good.{contents, goodLayouts, goodSpare, goodImage}
@@ -91,7 +91,7 @@ small b g most =
     let p = within-le (g .rml) in
     let q = within-le (g .rfp) in
     fit-at (toWords b)
-    (w .mc, (w .md, (omega (arith, l .trs), (omega (arith, l .trr), (omega (arith, l .ta), (omega (arith, l .aa), (w .rmp, (omega (arith, w .rmp, p), (w .lam, (w .gam, (omega (arith, w .rmp, q), (omega (arith, l .cdr), (omega (arith, l .mbtif), (w .mbrif, (w .mbim, (omega (arith, r .gif), (omega (arith, r .gim), (omega (arith, r .bcr1), (omega (arith, r .bcr2), (omega (arith, r .tsc), (omega (arith, r .tec), (omega (arith, r .rec), (omega (arith, r .mode), (omega arith, (omega (arith, r .slot), (omega (arith, r .recovery), (omega (arith, r .options), (omega (arith, r .tso), (lit< tt, (lit< tt, (lit< tt, (lit< tt, tt))))))))))))))))))))))))))))))))
+    (w .mc, (w .md, (omega (arith, l .trs), (omega (arith, l .trr), (omega (arith, l .ta), (omega (arith, l .aa), (w .rmp, (omega (arith, w .rmp, p), (w .lam, (w .gam, (omega (arith, w .rmp, q), (omega (arith, l .cdr), (omega (arith, l .mbtif), (w .mbrif, (w .mbim, (omega (arith, r .gif), (omega (arith, r .gim), (omega (arith, r .bcr1), (omega (arith, r .bcr2), (omega (arith, r .tsc), (omega (arith, r .tec), (omega (arith, r .rec), (omega (arith, r .mode), (omega arith, (omega (arith, r .slot), (omega (arith, r .recovery), (omega (arith, r .options), (omega (arith, r .tso), tt))))))))))))))))))))))))))))
 
 -- ---- 16 other bytes in the place of a mailbox
 
@@ -131,12 +131,9 @@ module _ (s : List ℕ) (n : ℕ) (m : List ℕ) (g : GoodImage s) (hn : n < mai
         block = rw block-stays (g .block);
       }
 
--- ---- another register block; of the image before, its mailboxes alone matter
+-- ---- another register block; of the image before, its mailboxes and its spare words alone matter
 
-module _ (s : List ℕ) (b : Block) (byte : Bytes s) (size : length s ≡ imageBytes) (layouts : (n : ℕ) → n < mailboxes → layout s n ≡ true) (ok : GoodBlock b) where
-  back : (k : ℕ) → k < 32 → wordAt (putBlock s b) (registersAt + 4 * k) ≡ getD (toWords b) k 0
-  back = word-back s b size (small b (ok .core) (ok .waits .most))
-
+module _ (s : List ℕ) (b : Block) (byte : Bytes s) (size : length s ≡ imageBytes) (layouts : (n : ℕ) → n < mailboxes → layout s n ≡ true) (spare : goodSpare s ≡ true) (ok : GoodBlock b) where
   pub block-kept : GoodImage (putBlock s b)
   unfolding goodSpare layout
   block-kept =
@@ -146,6 +143,8 @@ module _ (s : List ℕ) (b : Block) (byte : Bytes s) (size : length s ≡ imageB
         layouts =
             λ j h.
             rw (word-stays s b (16 * j + 4 * 0) (omega arith), word-stays s b (16 * j + 4 * 1) (omega arith)) (layouts j h);
-        spare = rw (back 28 (lit< tt), back 29 (lit< tt), back 30 (lit< tt), back 31 (lit< tt));
+        spare =
+            rw (spare-stays s b 28 (lit≤ tt), spare-stays s b 29 (lit≤ tt), spare-stays s b 30 (lit≤ tt), spare-stays s b 31 (lit≤ tt))
+            spare;
         block = rw (block-back s b size (small b (ok .core) (ok .waits .most))) ok;
       }

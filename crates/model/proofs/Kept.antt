@@ -180,7 +180,7 @@ module _ (s : List ℕ) where
   unfolding accepted
   accepted-good v t =
       let m = boxes-after v t in
-      block-kept (mailboxesAfter s v) (blockAfter s v) (m .bytes) (m .size) (m .layouts) (block-after v t)
+      block-kept (mailboxesAfter s v) (blockAfter s v) (m .bytes) (m .size) (m .layouts) (m .spare) (block-after v t)
 
 -- ---- the step, of any bytes: a good image stays good
 

@@ -15,14 +15,14 @@ registersAt = 512
 abbrev pub registerWords : ℕ
 registerWords = 32
 
--- The image, words from 512: which word is which register. The words 28 to 31 belong to none.
+-- The image, words from 512: which word is which register. The words 28 to 31 are no part of the block.
 abbrev pub ofWords : List ℕ → Block
 ofWords row =
     record { mc = getD row 0 0; md = getD row 1 0; trs = getD row 2 0; trr = getD row 3 0; ta = getD row 4 0; aa = getD row 5 0; rmp = getD row 6 0; rml = getD row 7 0; lam = getD row 8 0; gam = getD row 9 0; rfp = getD row 10 0; cdr = getD row 11 0; mbtif = getD row 12 0; mbrif = getD row 13 0; mbim = getD row 14 0; gif = getD row 15 0; gim = getD row 16 0; bcr1 = getD row 17 0; bcr2 = getD row 18 0; tsc = getD row 19 0; tec = getD row 20 0; rec = getD row 21 0; mode = getD row 22 0; waiting = getD row 23 0; slot = getD row 24 0; recovery = getD row 25 0; options = getD row 26 0; tso = getD row 27 0 }
 
 abbrev pub toWords : Block → List ℕ
 toWords b =
-    b .mc ∷ b .md ∷ b .trs ∷ b .trr ∷ b .ta ∷ b .aa ∷ b .rmp ∷ b .rml ∷ b .lam ∷ b .gam ∷ b .rfp ∷ b .cdr ∷ b .mbtif ∷ b .mbrif ∷ b .mbim ∷ b .gif ∷ b .gim ∷ b .bcr1 ∷ b .bcr2 ∷ b .tsc ∷ b .tec ∷ b .rec ∷ b .mode ∷ b .waiting ∷ b .slot ∷ b .recovery ∷ b .options ∷ b .tso ∷ 0 ∷ 0 ∷ 0 ∷ 0 ∷ []
+    b .mc ∷ b .md ∷ b .trs ∷ b .trr ∷ b .ta ∷ b .aa ∷ b .rmp ∷ b .rml ∷ b .lam ∷ b .gam ∷ b .rfp ∷ b .cdr ∷ b .mbtif ∷ b .mbrif ∷ b .mbim ∷ b .gif ∷ b .gim ∷ b .bcr1 ∷ b .bcr2 ∷ b .tsc ∷ b .tec ∷ b .rec ∷ b .mode ∷ b .waiting ∷ b .slot ∷ b .recovery ∷ b .options ∷ b .tso ∷ []
 
 -- The block of an image, and an image with another block: its words replaced, every other byte as it was.
 unfoldable pub blockOf : List ℕ → Block

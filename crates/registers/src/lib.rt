@@ -13,7 +13,7 @@ pub const IMAGE_BYTES: usize = 640;
 
 pub const REGISTERS_AT: usize = 512;
 
-// A field for each of the words 0 to 27; the words 28 to 31 are zero.
+// A field for each of the words 0 to 27; the words 28 to 31 are no part of the block.
 pub struct Block {
     // 0: MC: the mailbox is enabled
     pub mc: u32,
@@ -109,7 +109,7 @@ impl Block {
         }
     }
 
-    fn to_words(self) -> [u32; 32]
+    fn to_words(self) -> [u32; 28]
         ensures { λ r. ⌜ r ≡ toWords self ⌝ }
     {
         [
@@ -141,10 +141,6 @@ impl Block {
             self.recovery,
             self.options,
             self.tso,
-            0,
-            0,
-            0,
-            0,
         ]
     }
 
@@ -156,7 +152,7 @@ impl Block {
         Block::from_words(words::load_words(s, REGISTERS_AT))
     }
 
-    // The block put into an image; no byte of a mailbox moves.
+    // The block put into an image; no byte of a mailbox moves, and no spare word.
     pub fn store(self, s: &mut [u8])
         requires { ⌜ length (now s) ≡ imageBytes ⌝ }
         ensures { λ r. ⌜ now (s .exit) ≡ putBlock (now (s .entry)) self ⌝ }

@@ -3,7 +3,7 @@ use Prim.Native.Nat.{ℕ, zero, suc, _+_, _-_, _*_, _^_, _<_, _≤_}
 use mathlib.Core.Path.{_≡_, refl, _∙_, ap, ap₂}
 use mathlib.Core.List.{List, [], _∷_}
 use native.Mathlib.Omega.{arith}
-use mathlib.Core.Logic.{_≢_, inl}
+use mathlib.Core.Logic.{_≢_, inl, inr}
 use borrow.Author.Count.{below-more}
 use lib.ListN.{getD, set, length, take}
 use lib.Seq.{getD-set-same, getD-set-other}
@@ -64,6 +64,12 @@ pub before-put : (s : List ℕ) (at : ℕ) (ws : List ℕ) (i : ℕ) → i + 4 �
 unfolding putWords
 before-put s at [] i h = refl
 before-put s at (w ∷ ws) i h = before-put (putWord s at w) (at + 4) ws i (omega arith) ∙ word-other s at w i (inl h)
+
+-- the words behind the row stay
+pub after-put : (s : List ℕ) (at : ℕ) (ws : List ℕ) (i : ℕ) → at + 4 * length ws ≤ i → wordAt (putWords s at ws) i ≡ wordAt s i
+unfolding putWords
+after-put s at [] i h = refl
+after-put s at (w ∷ ws) i h = after-put (putWord s at w) (at + 4) ws i (omega arith) ∙ word-other s at w i (inr (omega arith))
 
 -- the words that were put are read back
 pub word-of-put : (s : List ℕ) (at : ℕ) (ws : List ℕ) (k : ℕ) → ((j : ℕ) → j < length ws → getD ws j 0 < 2 ^ 32) → at + 4 * length ws ≤ length s → k < length ws

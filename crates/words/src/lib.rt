@@ -58,13 +58,13 @@ pub fn load_words(s: &[u8], at: usize) -> [u32; 32]
     row
 }
 
-// 32 words in a row, put from `at` on.
-pub fn put_words(s: &mut [u8], at: usize, row: [u32; 32])
-    requires { ⌜ at + 128 ≤ length (now s) ⌝ }
+// 28 words in a row, put from `at` on.
+pub fn put_words(s: &mut [u8], at: usize, row: [u32; 28])
+    requires { ⌜ at + 112 ≤ length (now s) ⌝ }
     ensures { λ r. ⌜ now (s .exit) ≡ putWords (now (s .entry)) at row ⌝ }
 {
     let mut i: usize = 0;
-    while i < 32 {
+    while i < 28 {
         put_word(s, at + 4 * i, row[i]);
         i += 1;
     }
