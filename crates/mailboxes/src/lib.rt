@@ -11,7 +11,7 @@ ghost use mathlib.Core.Path.{_≡_};
 ghost use Prim.Native.Nat.{_+_, _*_, _<_, _≤_};
 ghost use lib.ListN.{length};
 ghost use Rattle.words.specs.Word.{putWord};
-ghost use Rattle.mailboxes.specs.Mailbox.{mailboxWord, mailbox, withMailbox, wordLayout, layout as layoutOf};
+ghost use Rattle.mailboxes.specs.Mailbox.{mailboxWord, mailbox, withMailbox, wordLayout};
 
 // An identifier and an arbitration key: two numbers of 32 bits that are never one another.
 pub struct Identifier(pub u32);
@@ -51,14 +51,6 @@ pub fn word_layout(k: u32, w: u32) -> bool
         1 => control_layout(w),
         _ => true,
     }
-}
-
-// Does mailbox n keep to the layout?
-pub fn layout(s: &[u8], n: usize) -> bool
-    requires { ⌜ (16 * n + 16 ≤ length (now s)) × (n < 32) ⌝ }
-    ensures { λ r. ⌜ r ≡ layoutOf (now (s .entry)) n ⌝ }
-{
-    identifier_layout(word(s, n, 0)) & control_layout(word(s, n, 1))
 }
 
 // The small writer: word k of the 16 lent bytes.
