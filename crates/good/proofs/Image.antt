@@ -95,6 +95,14 @@ small b g most =
 
 -- ---- 16 other bytes in the place of a mailbox
 
+-- the register block stays
+pub block-stays : (s : List ℕ) (n : ℕ) (m : List ℕ) → length s ≡ imageBytes → n < mailboxes → length m ≡ 16 → blockOf (withMailbox s n m) ≡ blockOf s
+unfolding blockOf
+block-stays s n m h l k =
+    let room : 16 * n + 16 ≤ length s = omega arith in
+    ap ofWords
+    (words-same (withMailbox s n m) s registersAt 32 (λ j i. word-out s n m room k (registersAt + 4 * j) (inr (omega arith))))
+
 module _ (s : List ℕ) (n : ℕ) (m : List ℕ) (g : GoodImage s) (hn : n < mailboxes) (size : length m ≡ 16) (byte : Bytes m) (ok : layout m 0 ≡ true) where
   room : 16 * n + 16 ≤ length s
   room = omega (arith, g .size)
@@ -116,10 +124,6 @@ module _ (s : List ℕ) (n : ℕ) (m : List ℕ) (g : GoodImage s) (hn : n < mai
   after : (i : ℕ) → 512 ≤ i → wordAt (withMailbox s n m) i ≡ wordAt s i
   after i h = word-out s n m room size i (inr (omega arith))
 
-  pub block-stays : blockOf (withMailbox s n m) ≡ blockOf s
-  unfolding blockOf
-  block-stays = ap ofWords (words-same (withMailbox s n m) s registersAt 32 (λ k l. after (registersAt + 4 * k) (omega arith)))
-
   pub mailbox-kept : GoodImage (withMailbox s n m)
   unfolding goodSpare
   mailbox-kept =
@@ -128,7 +132,7 @@ module _ (s : List ℕ) (n : ℕ) (m : List ℕ) (g : GoodImage s) (hn : n < mai
         size = length-with s n m room size ∙ g .size;
         layouts = λ j h. layout-there j h (ltb j n) (ltb n j) refl refl;
         spare = rw (after 624 (lit≤ tt), after 628 (lit≤ tt), after 632 (lit≤ tt), after 636 (lit≤ tt)) (g .spare);
-        block = rw block-stays (g .block);
+        block = rw (block-stays s n m (g .size) hn size) (g .block);
       }
 
 -- ---- another register block; of the image before, its mailboxes and its spare words alone matter

@@ -1,11 +1,11 @@
--- The sums by which the code judges many layouts at once.
+-- The image, the layout of the mailboxes: the sums by which the code judges many at once. The rule itself is in Good.
 use Prim.Native.Nat.{ℕ, _<_, _≤_}
 use mathlib.Core.Path.{_≡_}
 use mathlib.Core.Bool.{Bool, true, _&&_}
 use lib.Dec.{ltb}
 use Rattle.good.specs.declared.Sums.{Sums}
 
--- Neither sum reaches its power of two: the words keep to the layout.
+-- The image, the layout: neither sum reaches its power of two, so the words keep to it.
 abbrev pub clean : Sums → Bool
 clean x = ltb (x .identifiers) 4294967296 && ltb (x .controls) 65536
 

@@ -1,20 +1,19 @@
 -- Bytes written into a mailbox leave the length of the image and its register block.
 use Prim.Native.Nat.{ℕ, _+_, _*_, _<_, _≤_}
-use mathlib.Core.Path.{_≡_, refl, _∙_, ap}
+use mathlib.Core.Path.{_≡_, refl, _∙_}
 use mathlib.Core.Bool.{Bool, true, false, cond}
 use mathlib.Core.List.{List}
-use mathlib.Core.Logic.{inr}
 use native.Mathlib.Omega.{arith}
 use lib.Dec.{eqb}
 use lib.ListN.{length}
 use Rattle.words.proofs.Laws.{length-put}
-use Rattle.words.proofs.Rows.{words-same}
-use Rattle.registers.specs.Block.{imageBytes, registersAt, blockOf, ofWords}
+use Rattle.registers.specs.Block.{imageBytes, blockOf}
 use Rattle.mailboxes.specs.declared.Identifier.{Identifier}
 use Rattle.mailboxes.specs.Mailbox.{mailbox, withMailbox}
 use Rattle.mailboxes.specs.Filing.{filed}
-use Rattle.mailboxes.proofs.Laws.{length-mailbox, length-with, word-out}
+use Rattle.mailboxes.proofs.Laws.{length-mailbox, length-with}
 use Rattle.mailboxes.proofs.Filed.{length-filed, length-stamped}
+use Rattle.good.proofs.Image.{block-stays}
 use Rattle.model.specs.Step.{rewritten, postmarked}
 use Rattle.model.specs.Parts.{Loaded}
 
@@ -27,15 +26,7 @@ module _ (s : List ℕ) (n : ℕ) (h : length s ≡ imageBytes) (l : n < 32) whe
   room = omega arith
 
   beside : (m : List ℕ) → length m ≡ 16 → Beside s (withMailbox s n m)
-  unfolding blockOf
-  beside m k =
-      record {
-        size = length-with s n m room k;
-        block =
-            ap ofWords
-            (words-same (withMailbox s n m) s registersAt 32
-            (λ j i. word-out s n m room k (registersAt + 4 * j) (inr (omega arith))));
-      }
+  beside m k = record { size = length-with s n m room k; block = block-stays s n m h l k }
 
   pub rewritten-beside : (k v : ℕ) → Beside s (rewritten s n k v)
   unfolding rewritten

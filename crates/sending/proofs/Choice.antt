@@ -201,23 +201,6 @@ chosen-unique s w mtos x y a b = at (ltb x mailboxes) refl (ltb y mailboxes) ref
     at false p true q = absurd (clash y x b a (ltb-true y mailboxes q) (ltb-false x mailboxes p))
     at false p false q = omega (arith, a .at-most, b .at-most, ltb-false x mailboxes p, ltb-false y mailboxes q)
 
--- a bit past the last mailbox never matters
-pub chosen-same : (s : List ℕ) (v w : ℕ) (mtos : Bool) → ((m : ℕ) → m < mailboxes → bit v m ≡ bit w m) → chosen s v mtos ≡ chosen s w mtos
-chosen-same s v w mtos h = chosen-unique s w mtos (chosen s v mtos) (chosen s w mtos) moved (chosen-is s w mtos)
-  where
-    c : Chosen s v mtos (chosen s v mtos)
-    c = chosen-is s v mtos
-
-    moved : Chosen s w mtos (chosen s v mtos)
-    moved =
-        record {
-          at-most = c .at-most;
-          nobody = λ e m l. sym (h m l) ∙ c .nobody e m l;
-          named = λ l. sym (h (chosen s v mtos) l) ∙ c .named l;
-          by-key = λ l q m g p. c .by-key l q m g (h m g ∙ p);
-          by-number = λ l q m g p. c .by-number l q m g (h m g ∙ p);
-        }
-
 -- ---- Sending: what a start takes
 
 module _ (s : List ℕ) where
