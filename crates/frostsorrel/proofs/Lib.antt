@@ -1,2 +1,0 @@
--- The entry points leave no choice.
-pub mod Unique

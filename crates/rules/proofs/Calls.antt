@@ -1,0 +1,48 @@
+-- What a C caller sees: the promises of fresh, step and read are the rulebook's, which leave no choice.
+use Prim.Native.Nat.{ℕ, _+_, _*_, _^_}
+use mathlib.Core.Path.{_≡_, sym, _∙_, ap}
+use mathlib.Core.List.{List}
+use Rattle.words.proofs.Bytes.{Bytes}
+use Rattle.answers.specs.Answer.{Outcome, Reading, Promise, ReadPromise}
+use Rattle.fresh.specs.Fresh.{fresh}
+use Rattle.reading.specs.Read.{read}
+use Rattle.model.specs.Step.{step}
+use Rattle.rules.specs.Calls.{Call, FreshCall, StepCall, ReadCall}
+use Rattle.rules.proofs.Fresh.{fresh-meets, fresh-one}
+use Rattle.rules.proofs.Reading.{reads, read-one}
+use Rattle.rules.proofs.Exact.{step-meets, rules-one}
+
+-- ---- a promise about an outcome that keeps the rules
+
+call : (P : Outcome → Type 0) (o : Outcome) (x : List ℕ) (a : ℕ) → P o → Promise o x a → Call P x a
+call P o x a k p = record { outcome = o; keeps = k; image = p .image; packs = p .answered }
+
+pub fresh-call : (s x : List ℕ) (a : ℕ) → Promise (fresh s) x a → FreshCall s x a
+fresh-call s x a = call _ (fresh s) x a (fresh-meets s)
+
+pub step-call : (s e x : List ℕ) (a : ℕ) → Bytes s → Bytes e → Promise (step s e) x a → StepCall s e x a
+step-call s e x a b y = call _ (step s e) x a (step-meets s e b y)
+
+pub read-call : (s : List ℕ) (k a : ℕ) → Bytes s → ReadPromise (read s k) a → ReadCall s k a
+read-call s k a b p = record { reading = read s k; keeps = reads s b k; packs = p .answered }
+
+-- ---- two results that keep the rules coincide
+
+one : (P : Outcome → Type 0) → ((o u : Outcome) → P o → P u → o ≡ u) → (x y : List ℕ) (a b : ℕ) → Call P x a → Call P y b → (x ≡ y) × (a ≡ b)
+one P h x y a b p q =
+    let e = h (p .outcome) (q .outcome) (p .keeps) (q .keeps) in (
+      p .image ∙ ap (λ (o : Outcome). o .image) e ∙ sym (q .image),
+      p .packs ∙ ap (λ (o : Outcome). o .refusal + 256 * o .mailbox + 65536 * o .count) e ∙ sym (q .packs),
+    )
+
+pub fresh-unique : (s x y : List ℕ) (a b : ℕ) → FreshCall s x a → FreshCall s y b → (x ≡ y) × (a ≡ b)
+fresh-unique s = one _ (fresh-one s)
+
+pub step-unique : (s e : List ℕ) → Bytes s → Bytes e → (x y : List ℕ) (a b : ℕ) → StepCall s e x a → StepCall s e y b → (x ≡ y) × (a ≡ b)
+step-unique s e h k = one _ (rules-one s e h k)
+
+pub read-unique : (s : List ℕ) → Bytes s → (k a b : ℕ) → ReadCall s k a → ReadCall s k b → a ≡ b
+read-unique s h k a b p q =
+    p .packs
+    ∙ ap (λ (r : Reading). r .value + 2 ^ 32 * r .refusal) (read-one s h k (p .reading) (q .reading) (p .keeps) (q .keeps))
+    ∙ sym (q .packs)

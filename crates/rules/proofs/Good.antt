@@ -1,0 +1,172 @@
+-- The rule of a good image is the product's test, both ways.
+use Prim.Native.Nat.{ℕ, zero, suc, _+_, _-_, _*_, _/_, _%_, _^_, _<_, _≤_}
+use mathlib.Core.Path.{_≡_, refl, sym, _∙_, ap, subst}
+use mathlib.Core.Bool.{Bool, true, false, _||_, false≢true}
+use mathlib.Core.List.{List, [], _∷_}
+use native.Mathlib.Decide.{decLt}
+use native.Mathlib.Omega.{arith}
+use native.Mathlib.Nat.{mod-lt}
+use lib.Dec.{eqb, leb}
+use lib.Pow.{shr-shr, pow-pos}
+use borrow.Author.Tests.{eqb-true, eq-eqb, leb-true, le-leb}
+use Rattle.bits.specs.Bit.{digit, bit}
+use Rattle.bits.proofs.Laws.{bit-mask, bit-zero, bit-high, same-below}
+use Rattle.bits.proofs.Sets.{both, and-l, and-r, top-up, top-down}
+use Rattle.words.specs.Word.{wordAt, wordsOf}
+use Rattle.words.proofs.Bytes.{Bytes, word-lt}
+use Rattle.registers.specs.Block.{blockOf}
+use Rattle.mailboxes.specs.Mailbox.{ide, wordLayout, layout}
+use Rattle.good.specs.Good.{goodSpare, spareWords, goodImage}
+use Rattle.good.proofs.Facts.{Core}
+use Rattle.good.proofs.Image.{GoodImage, image-facts, image-good}
+use Rattle.bits.proofs.Tests.{all, holds}
+use Rattle.rules.specs.Words.{_has_, words, box, among, TRS, TRR, TA, AA, CDR, MBTIF, RML, RFP, LAM, GAM, RMP}
+use Rattle.rules.specs.Image.{Layout, GoodWords, Good}
+use Rattle.rules.proofs.Blocks.{among-all}
+use Rattle.rules.proofs.Receiving.{bit-mod}
+
+pub false-of : (t : Bool) → (t ≡ true → ⊥) → t ≡ false
+false-of true h = absurd (h refl)
+false-of false h = refl
+
+-- ---- a field that is zero, by its bits
+
+bit-shift : (w lo i : ℕ) → bit (w / 2 ^ lo) i ≡ bit w (lo + i)
+unfolding digit
+bit-shift w lo i = ap (λ (x : ℕ). eqb (x % 2) 1) (shr-shr w lo i)
+
+field-bits : (w lo len : ℕ) → w / 2 ^ lo % 2 ^ len ≡ 0 → (i : ℕ) → i < len → bit w (lo + i) ≡ false
+field-bits w lo len h i l =
+    sym (bit-shift w lo i) ∙ sym (bit-mod (w / 2 ^ lo) len i l) ∙ ap (λ (x : ℕ). bit x i) h ∙ bit-zero i
+
+bits-field : (w lo len : ℕ) → ((i : ℕ) → i < len → bit w (lo + i) ≡ false) → w / 2 ^ lo % 2 ^ len ≡ 0
+bits-field w lo len h =
+    same-below len (w / 2 ^ lo % 2 ^ len) 0 (mod-lt _ (pow-pos len)) (pow-pos len)
+    (λ i l. bit-mod (w / 2 ^ lo) len i l ∙ bit-shift w lo i ∙ h i l ∙ sym (bit-zero i))
+
+bit-up : (w : ℕ) → bit w 31 ≡ true → 2 ^ 31 ≤ w
+bit-up w h = at (decLt w (2 ^ 31))
+  where
+    at : Dec (w < 2 ^ 31) → 2 ^ 31 ≤ w
+    at (yes l) = absurd (false≢true (sym (bit-high 31 31 w l (omega arith)) ∙ h))
+    at (no l) = omega arith
+
+-- ---- the layout of a mailbox
+
+laid : (s : List ℕ) (n : ℕ) → layout s n ≡ true → Layout s n
+unfolding layout
+laid s n h =
+    let w = box s n 1 in
+    let p = and-l (wordLayout 0 (box s n 0)) (wordLayout 1 w) h in
+    let q = and-r (wordLayout 0 (box s n 0)) (wordLayout 1 w) h in
+    let f = eqb-true _ _ (and-l (eqb (w / 2 ^ 5 % 2 ^ 11) 0) (leb (w % 2 ^ 4) 8) q) in
+    record {
+      standard = λ z. eqb-true _ _ (rw z at p);
+      others = λ i l k. let e : 5 + (i - 5) ≡ i = omega arith in subst (λ (j : ℕ). bit w j ≡ false) e (field-bits w 5 11 f (i - 5) (omega arith));
+      dlc = leb-true _ _ (and-r (eqb (w / 2 ^ 5 % 2 ^ 11) 0) (leb (w % 2 ^ 4) 8) q);
+    }
+
+lays : (s : List ℕ) (n : ℕ) → Layout s n → layout s n ≡ true
+unfolding layout
+lays s n h =
+    let w = box s n 1 in
+    both (wordLayout 0 (box s n 0)) (wordLayout 1 w) (at (ide (box s n 0)) refl)
+    (both (eqb (w / 2 ^ 5 % 2 ^ 11) 0) (leb (w % 2 ^ 4) 8) (eq-eqb _ _ (bits-field w 5 11 (λ i l. h .others (5 + i) (omega arith) (omega arith)))) (le-leb _ _ (h .dlc)))
+  where
+    at : (t : Bool) → ide (box s n 0) ≡ t → (t || eqb (box s n 0 % 2 ^ 18) 0) ≡ true
+    at true e = refl
+    at false e = eq-eqb _ _ (h .standard e)
+
+-- ---- from the test to the rule
+
+module _ (s : List ℕ) (g : GoodImage s) where
+  abbrev k : Core (blockOf s)
+  k = g .block .core
+
+  facts : GoodWords (words s)
+  unfolding blockOf wordsOf goodSpare
+  facts =
+      let r = k .ranges in
+      let p = all (spareWords s) (g .spare) in
+      record {
+        md = top-up (wordAt s 516) (k .wide .md) (k .md31);
+        bit-31 =
+            among-all (λ j. words s j has 31 ≡ false) (TRS ∷ TRR ∷ TA ∷ AA ∷ CDR ∷ MBTIF ∷ [])
+            (bit-high 31 31 _ (k .low .trs) (omega arith), (bit-high 31 31 _ (k .low .trr) (omega arith), (bit-high 31 31 _ (k .low .ta) (omega arith), (bit-high 31 31 _ (k .low .aa) (omega arith), (bit-high 31 31 _ (k .low .cdr) (omega arith), (bit-high 31 31 _ (k .low .mbtif) (omega arith), tt))))));
+        trs = k .apart .never;
+        trr = λ n h. (eqb-true _ _ (sym (bit-mask (wordAt s 608) n) ∙ k .atSlot .has n h), k .ofRequest .has n h);
+        rml-rfp = λ j n. among-all (λ j. words s j has n ≡ true → words s RMP has n ≡ true) (RML ∷ RFP ∷ []) (k .rml .has n, (k .rfp .has n, tt)) j;
+        masks =
+            among-all (λ j. (words s j has 30 ≡ false) × (words s j has 29 ≡ false)) (LAM ∷ GAM ∷ [])
+            ((field-bits _ 29 2 (k .lam) 1 (omega arith), field-bits _ 29 2 (k .lam) 0 (omega arith)), ((field-bits _ 29 2 (k .gam) 1 (omega arith), field-bits _ 29 2 (k .gam) 0 (omega arith)), tt));
+        gif = (r .gif, r .gim);
+        bcr = (r .bcr1, r .bcr2);
+        counters = (r .tsc, r .tec, r .rec);
+        states = (r .mode, g .block .waits .most, r .slot, r .recovery, r .options, r .tso);
+        spare = (eqb-true _ _ (p .0), eqb-true _ _ (p .1 .0), eqb-true _ _ (p .1 .1 .0), eqb-true _ _ (p .1 .1 .1 .0));
+        filled = λ h. let x = k .slotted h in (x .mode, x .tec, x .trs, x .mc);
+        bus-off = k .off;
+        recovers = k .recovering;
+        waits = g .block .waits .least;
+        waits-for = g .block .waits .reason;
+        sleeps = λ h. let x = k .sleeps h in (x .tec, x .rec, x .trs, x .trr);
+      }
+
+pub good-rule : (s : List ℕ) → Bytes s → goodImage s ≡ true → Good s
+good-rule s b h =
+    let g = image-facts s b h in
+    record { size = g .size; layouts = λ n l. laid s n (g .layouts n l); registers = facts s g }
+
+-- ---- from the rule to the test
+
+module _ (s : List ℕ) (b : Bytes s) (h : Good s) where
+  abbrev q : GoodWords (words s)
+  q = h .registers
+
+  low : (j : ℕ) → among j (TRS ∷ TRR ∷ TA ∷ AA ∷ CDR ∷ MBTIF ∷ []) ≡ true → words s j < 2 ^ 31
+  low j e = top-down (words s j) (word-lt s b (512 + 4 * j)) (q .bit-31 j e)
+
+  gap : (w : ℕ) → w has 30 ≡ false → w has 29 ≡ false → w / 2 ^ 29 % 2 ^ 2 ≡ 0
+  gap w x y = bits-field w 29 2 at
+    where
+      at : (i : ℕ) → i < 2 → bit w (29 + i) ≡ false
+      at zero l = y
+      at (suc zero) l = x
+      at (suc (suc i)) l = absurd (omega arith)
+
+  core : Core (blockOf s)
+  unfolding blockOf wordsOf
+  core =
+      record {
+        wide = record { mc = word-lt s b 512; md = word-lt s b 516; rmp = word-lt s b 536; lam = word-lt s b 544; gam = word-lt s b 548; mbrif = word-lt s b 564; mbim = word-lt s b 568 };
+        md31 = bit-up (wordAt s 516) (q .md);
+        low = record { trs = low TRS refl; trr = low TRR refl; ta = low TA refl; aa = low AA refl; cdr = low CDR refl; mbtif = low MBTIF refl };
+        apart = record { never = q .trs };
+        atSlot = record { has = λ n e. bit-mask (wordAt s 608) n ∙ eq-eqb _ _ (q .trr n e .0) };
+        ofRequest = record { has = λ n e. q .trr n e .1 };
+        rml = record { has = λ n. q .rml-rfp RML n refl };
+        rfp = record { has = λ n. q .rml-rfp RFP n refl };
+        lam = gap (wordAt s 544) (q .masks LAM refl .0) (q .masks LAM refl .1);
+        gam = gap (wordAt s 548) (q .masks GAM refl .0) (q .masks GAM refl .1);
+        ranges = record { gif = q .gif .0; gim = q .gif .1; bcr1 = q .bcr .0; bcr2 = q .bcr .1; tsc = q .counters .0; tec = q .counters .1; rec = q .counters .2; mode = q .states .0; slot = q .states .2; recovery = q .states .3; options = q .states .4; tso = q .states .5 };
+        slotted = λ e. let x = q .filled e in record { mode = x .0; tec = x .1; trs = x .2; mc = x .3 };
+        off = q .bus-off;
+        recovering = q .recovers;
+        sleeps = λ e. let x = q .sleeps e in record { tec = x .0; rec = x .1; trs = x .2; trr = x .3 };
+      }
+
+  spare-test : goodSpare s ≡ true
+  unfolding goodSpare
+  spare-test = holds (spareWords s) (eq-eqb _ _ (q .spare .0), (eq-eqb _ _ (q .spare .1), (eq-eqb _ _ (q .spare .2), (eq-eqb _ _ (q .spare .3), tt))))
+
+  pub rule-good : goodImage s ≡ true
+  unfolding blockOf wordsOf
+  rule-good =
+      image-good s
+      (record {
+        bytes = b;
+        size = h .size;
+        layouts = λ n l. lays s n (h .layouts n l);
+        spare = spare-test;
+        block = record { core = core; waits = record { least = q .waits; most = q .states .1; reason = q .waits-for } };
+      })

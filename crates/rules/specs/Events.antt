@@ -1,0 +1,118 @@
+-- "The events": the fields of an event, and refusals 2 to 7, each as a test of the event and the register words.
+use Prim.Native.Nat.{ℕ, _+_, _/_, _%_, _^_}
+use mathlib.Core.Bool.{Bool, cond, not, xor, _&&_, _||_}
+use mathlib.Core.List.{List, [], _∷_}
+use lib.Dec.{ltb, leb}
+use lib.ListN.{length}
+use Rattle.bits.specs.Below.{allBelow}
+use Rattle.words.specs.Word.{wordAt}
+use Rattle.rules.specs.Words.{Words, _has_, _is_, words, box, byte, among, any, MC, MD, TRS, RML, LAM, GAM, RFP, CDR, GIF, GIM, BCR1, BCR2, TSC, MODE, SLOT}
+
+-- The events: operation, target and word have a byte each, the value four. A frame's value has IDE in bit 31, RTR in bit 30 and the
+-- identifier in 28 to 0.
+abbrev pub operation : List ℕ → ℕ
+operation e = byte e 0
+
+abbrev pub target : List ℕ → ℕ
+target e = byte e 1
+
+abbrev pub part : List ℕ → ℕ
+part e = byte e 2
+
+abbrev pub value : List ℕ → ℕ
+value e = wordAt e 4
+
+abbrev pub rtr : List ℕ → Bool
+rtr e = value e has 30
+
+-- Refusal 2: another length than 16, or a number that nothing has: an operation above 10, a register above 19, a mailbox above 31, a word
+-- above 3, an outcome above 2. RML and RFP cannot be written.
+abbrev pub unknown : ℕ → List ℕ → Bool
+unknown op e =
+    not (length e is 16)
+    || ltb 10 op
+    || op is 0 && (ltb 19 (target e) || target e is RML || target e is RFP)
+    || op is 1 && (ltb 31 (target e) || ltb 3 (part e))
+    || op is 4 && ltb 2 (target e)
+
+-- Refusal 3: asleep, nothing is written and no option is set.
+abbrev pub asleep : ℕ → Words → Bool
+asleep op w = among op (0 ∷ 1 ∷ 9 ∷ []) && w MODE is 2
+
+-- Refusal 4, unused bytes: a target, a word, byte 3, a value or a data byte that the operation does not use is not 0. Data bytes are for
+-- frames that are not remote, and there the first DLC (the target) of them.
+abbrev pub unused : ℕ → List ℕ → Bool
+unused op e =
+    not (among op (0 ∷ 1 ∷ 2 ∷ 4 ∷ [])) && not (target e is 0)
+    || not (op is 1) && not (part e is 0)
+    || not (byte e 3 is 0)
+    || not (among op (0 ∷ 1 ∷ 2 ∷ 5 ∷ 8 ∷ 9 ∷ [])) && not (value e is 0)
+    || not (allBelow (λ i. op is 2 && (not (rtr e) && ltb i (target e)) || byte e (8 + i) is 0) 8)
+
+-- Refusal 4, what a register does not take.
+abbrev pub registerBad : ℕ → ℕ → Bool
+registerBad t v =
+    among t (LAM ∷ GAM ∷ []) && (v has 30 || v has 29)
+    || t is CDR && v has 31
+    || among t (GIF ∷ GIM ∷ []) && ltb 255 v
+    || among t (BCR1 ∷ BCR2 ∷ []) && ltb 1023 v
+    || t is TSC && not (v is 0)
+
+-- Refusal 4, what words 0 and 1 of a mailbox do not take: what its layout rules out.
+abbrev pub wordBad : ℕ → ℕ → Bool
+wordBad j v = j is 0 && (not (v has 31) && not (v % 2 ^ 18 is 0)) || j is 1 && (not (v / 2 ^ 5 % 2 ^ 11 is 0) || ltb 8 (v % 16))
+
+-- Refusal 4, values: those two; a frame with a DLC above 8, with bit 29, or standard with low bits; a receive error that is neither 1 nor 8;
+-- a mode or options above 3.
+abbrev pub bad : ℕ → List ℕ → Bool
+bad op e =
+    op is 0 && registerBad (target e) (value e)
+    || op is 1 && wordBad (part e) (value e)
+    || op is 2 && (ltb 8 (target e) || value e has 29 || not (value e has 31) && not (value e % 2 ^ 18 is 0))
+    || op is 5 && not (value e is 1 || value e is 8)
+    || among op (8 ∷ 9 ∷ []) && ltb 3 (value e)
+
+-- Does writing v to MD turn mailbox n round? Mailbox 31 never turns.
+abbrev pub turned : Words → ℕ → ℕ → Bool
+turned w v n = not (n is 31) && xor (v has n) (w MD has n)
+
+-- Refusal 5: a mailbox is in the slot, and the event is a frame, a start or a receive error, or writes that mailbox; a write to a mailbox
+-- with a request, unless CDR holds it back; an MC write that disables, or an MD write that turns round, a mailbox with a request.
+abbrev pub busy : ℕ → Words → List ℕ → Bool
+busy op w e =
+    among op (2 ∷ 3 ∷ 5 ∷ []) && not (w SLOT is 31)
+    || op is 1 && (not (w SLOT is 31) && target e is w SLOT || w TRS has target e && not (w CDR has target e))
+    || op is 0 && target e is MC && any (λ n. w TRS has n && (w MC has n && not (value e has n)))
+    || op is 0 && target e is MD && any (λ n. w TRS has n && turned w (value e) n)
+
+-- A bit timing that cannot work: TSEG1 (BCR2 bits 3 to 0) or TSEG2 (6 to 4) is zero, or SJW (9 to 8) is above TSEG2.
+abbrev pub untimed : ℕ → Bool
+untimed bcr2 = bcr2 % 16 is 0 || bcr2 / 16 % 8 is 0 || ltb (bcr2 / 16 % 8) (bcr2 / 256 % 4)
+
+-- Refusal 6: an MD write that turns an enabled mailbox round; BCR1 and BCR2 outside configuration; of an enabled mailbox word 0, and words 2
+-- and 3 if it receives, or if it replies by itself (RFH, bit 29 of word 0) and CDR does not hold it back; a change of mode that neither
+-- leaves normal nor goes there; leaving configuration with such a timing.
+abbrev pub locked : ℕ → Words → ℕ → List ℕ → Bool
+locked op w box0 e =
+    op is 0 && target e is MD && any (λ n. w MC has n && turned w (value e) n)
+    || op is 0 && among (target e) (BCR1 ∷ BCR2 ∷ []) && not (w MODE is 1)
+    || op is 1 && w MC has target e && (part e is 0 || leb 2 (part e) && (w MD has target e || box0 has 29 && not (w CDR has target e)))
+    || op is 8 && not (value e is w MODE) && not (w MODE is 0) && not (value e is 0)
+    || op is 8 && not (value e is w MODE) && w MODE is 1 && untimed (w BCR2)
+
+-- Refusal 7: an outcome, and nothing is in the slot.
+abbrev pub pointless : ℕ → Words → Bool
+pointless op w = op is 4 && w SLOT is 31
+
+-- The refusals: of a good image and any event, the first that applies; 0 where none does.
+abbrev pub later : ℕ → Words → ℕ → List ℕ → ℕ
+later op w box0 e =
+    cond (unknown op e) 2
+    (cond (asleep op w) 3
+    (cond (unused op e || bad op e) 4
+    (cond (busy op w e) 5
+    (cond (locked op w box0 e) 6
+    (cond (pointless op w) 7 0)))))
+
+unfoldable pub refusalOf : List ℕ → List ℕ → ℕ
+refusalOf s e = later (operation e) (words s) (box s (target e) 0) e

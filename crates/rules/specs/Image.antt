@@ -1,0 +1,46 @@
+-- "The image": what makes an image good.
+use Prim.Native.Nat.{ℕ, _%_, _^_, _<_, _≤_}
+use mathlib.Core.Path.{_≡_}
+use mathlib.Core.Bool.{true, false}
+use mathlib.Core.List.{List, [], _∷_}
+use mathlib.Core.Logic.{_≢_}
+use lib.ListN.{length}
+use Rattle.rules.specs.Words.{Words, _has_, words, box, among, MC, MD, TRS, TRR, TA, AA, RMP, RML, LAM, GAM, RFP, CDR, MBTIF, GIF, GIM, BCR1, BCR2, TSC, TEC, REC, MODE, WAITING, SLOT, RECOVERY, OPTIONS, TSO}
+
+-- The image, a mailbox: without IDE the low 18 bits of word 0 are zero; of word 1 bits 15 to 5 are zero and the DLC, its lowest four bits,
+-- is not above 8.
+pub record Layout (s : List ℕ) (n : ℕ) : Type 0 where
+  pub standard : box s n 0 has 31 ≡ false → box s n 0 % 2 ^ 18 ≡ 0
+  pub others : (i : ℕ) → 5 ≤ i → i < 16 → box s n 1 has i ≡ false
+  pub dlc : box s n 1 % 16 ≤ 8
+
+-- The image, its register words.
+pub record GoodWords (w : Words) : Type 0 where
+  -- flags: mailbox 31 only receives; a request stands at a transmit mailbox alone; a cancel stands at the slot's mailbox alone, where a
+  -- request is; a lost or a remote frame is a pending one; the masks have no bits 30 and 29
+  pub md : w MD has 31 ≡ true
+  pub bit-31 : (k : ℕ) → among k (TRS ∷ TRR ∷ TA ∷ AA ∷ CDR ∷ MBTIF ∷ []) ≡ true → w k has 31 ≡ false
+  pub trs : (n : ℕ) → w TRS has n ≡ true → w MD has n ≡ false
+  pub trr : (n : ℕ) → w TRR has n ≡ true → (n ≡ w SLOT) × (w TRS has n ≡ true)
+  pub rml-rfp : (k n : ℕ) → among k (RML ∷ RFP ∷ []) ≡ true → w k has n ≡ true → w RMP has n ≡ true
+  pub masks : (k : ℕ) → among k (LAM ∷ GAM ∷ []) ≡ true → (w k has 30 ≡ false) × (w k has 29 ≡ false)
+  -- ranges
+  pub gif : (w GIF < 256) × (w GIM < 256)
+  pub bcr : (w BCR1 < 1024) × (w BCR2 < 1024)
+  pub counters : (w TSC < 65536) × (w TEC ≤ 256) × (w REC ≤ 255)
+  pub states : (w MODE ≤ 3) × (w WAITING ≤ 4) × (w SLOT ≤ 31) × (w RECOVERY ≤ 127) × (w OPTIONS ≤ 3) × (w TSO ≤ 1)
+  pub spare : (w 28 ≡ 0) × (w 29 ≡ 0) × (w 30 ≡ 0) × (w 31 ≡ 0)
+  -- states that belong together: what a mailbox in the slot (31 is none) asks for; bus off and its recovery; a mode that waits (4 is none) and
+  -- what it waits for; sleep
+  pub filled : w SLOT ≢ 31 → (w MODE ≡ 0) × (w TEC < 256) × (w TRS has w SLOT ≡ true) × (w MC has w SLOT ≡ true)
+  pub bus-off : w TEC ≡ 256 → w MODE ≡ 0
+  pub recovers : 0 < w RECOVERY → w TEC ≡ 256
+  pub waits : 1 ≤ w WAITING
+  pub waits-for : w WAITING ≢ 4 → w SLOT ≡ 31 → w TEC ≡ 256
+  pub sleeps : w MODE ≡ 2 → (w TEC ≡ 0) × (w REC ≡ 0) × (w TRS ≡ 0) × (w TRR ≡ 0)
+
+-- The image: 640 bytes, 32 mailboxes, the register words.
+pub record Good (s : List ℕ) : Type 0 where
+  pub size : length s ≡ 640
+  pub layouts : (n : ℕ) → n < 32 → Layout s n
+  pub registers : GoodWords (words s)

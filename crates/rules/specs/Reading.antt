@@ -1,0 +1,33 @@
+-- "Writing", reading a register.
+use Prim.Native.Nat.{ℕ, _+_, _<_, _≤_}
+use mathlib.Core.Path.{_≡_}
+use mathlib.Core.Bool.{false, not}
+use mathlib.Core.List.{List}
+use mathlib.Core.Logic.{_≢_}
+use Rattle.answers.specs.Answer.{Reading}
+use Rattle.rules.specs.Image.{Good}
+use Rattle.rules.specs.Sending.{busOff, passive, warning}
+use Rattle.rules.specs.Words.{_has_, _is_, Words, words, MODE, SLOT, TSO}
+
+-- GSR, bit by bit.
+pub record Gsr (w : Words) (v : ℕ) : Type 0 where
+  pub bits-16-12 : (n : ℕ) → n < 5 → (v has (12 + n)) ≡ (w SLOT has n)
+  pub bit-10 : (v has 10) ≡ not (w SLOT is 31)
+  pub bit-8 : (v has 8) ≡ (w MODE is 3)
+  pub bit-7 : (v has 7) ≡ (w MODE is 1)
+  pub bit-6 : (v has 6) ≡ (w MODE is 2)
+  pub bit-3 : (v has 3) ≡ (w TSO is 1)
+  pub bit-2 : (v has 2) ≡ busOff w
+  pub bit-1 : (v has 1) ≡ passive w
+  pub bit-0 : (v has 0) ≡ warning w
+  pub others : (v has 11 ≡ false) × (v has 9 ≡ false) × (v has 5 ≡ false) × (v has 4 ≡ false) × ((n : ℕ) → 17 ≤ n → v has n ≡ false)
+
+-- Numbers 0 to 21 read that register word, 32 reads GSR. Asleep GSR has a fixed value and the rest is 0. An image that is not good gets
+-- refusal 1, another number refusal 2, and both the value 0.
+pub record Reads (s : List ℕ) (k : ℕ) (r : Reading) : Type 0 where
+  pub not-good : (Good s → ⊥) → (r .refusal ≡ 1) × (r .value ≡ 0)
+  pub unknown : Good s → 21 < k → k ≢ 32 → (r .refusal ≡ 2) × (r .value ≡ 0)
+  pub register : Good s → k ≤ 21 → words s MODE ≢ 2 → (r .refusal ≡ 0) × (r .value ≡ words s k)
+  pub gsr : Good s → k ≡ 32 → words s MODE ≢ 2 → (r .refusal ≡ 0) × Gsr (words s) (r .value)
+  pub asleep : Good s → k ≤ 21 → words s MODE ≡ 2 → (r .refusal ≡ 0) × (r .value ≡ 0)
+  pub asleep-gsr : Good s → k ≡ 32 → words s MODE ≡ 2 → (r .refusal ≡ 0) × (r .value ≡ 0x0001F040)

@@ -1,0 +1,147 @@
+-- "Sending, errors, modes". `was` are the register words before the event, `now` those that the event itself leaves; a mode that waits is
+-- taken after that (`Ending`).
+use Prim.Native.Nat.{ℕ, _+_, _-_, _*_, _^_, _/_, _%_, _<_, _≤_}
+use mathlib.Core.Path.{_≡_}
+use mathlib.Core.Bool.{Bool, true, false, cond, not, _&&_, _||_}
+use mathlib.Core.List.{List, [], _∷_}
+use mathlib.Core.Logic.{_≢_}
+use lib.Dec.{ltb}
+use Rattle.answers.specs.Answer.{Outcome}
+use Rattle.rules.specs.Words.{_has_, _is_, _has-bits_, Words, words, box, atMost, Only, BoxesStayBut, MC, TRS, TRR, TA, AA, CDR, MBTIF, MBIM, GIF, TSC, TEC, REC, MODE, WAITING, SLOT, RECOVERY, OPTIONS, TSO}
+
+-- What a call answers: a mailbox and a count.
+abbrev pub Answers : ℕ → ℕ → Outcome → Type 0
+Answers n c o = (o .mailbox ≡ n) × (o .count ≡ c)
+
+-- Errors: bus off; passive; warning.
+abbrev pub busOff : Words → Bool
+busOff w = w TEC is 256
+
+abbrev pub passive : Words → Bool
+passive w = ltb 127 (w TEC) || ltb 127 (w REC)
+
+abbrev pub warning : Words → Bool
+warning w = ltb 96 (w TEC) || ltb 96 (w REC)
+
+-- On the bus: normal mode, not bus off.
+abbrev pub onBus : Words → Bool
+onBus w = w MODE is 0 && ltb (w TEC) 256
+
+-- GIF after an event: a bit is up where it was, where the event raises it, and, bits 2, 1 and 0, where bus off, passive or warning holds
+-- now and did not before.
+abbrev pub Gif : (ℕ → Bool) → Words → Words → Type 0
+Gif raised was now =
+    now GIF has-bits (λ n. was GIF has n
+    || raised n
+    || busOff now && not (busOff was) && n is 2
+    || passive now && not (passive was) && n is 1
+    || warning now && not (warning was) && n is 0)
+
+abbrev pub nothing : ℕ → Bool
+nothing n = false
+
+-- Who may be sent: enabled, with a request, neither held back nor cancelled.
+abbrev pub candidate : Words → ℕ → Bool
+candidate was n = was TRS has n && was MC has n && not (was CDR has n) && not (was TRR has n)
+
+-- The arbitration key of mailbox n: its base identifier, then a bit that is RTR in a standard frame and 1 in an extended one, then IDE,
+-- then of an extended frame the low 18 bits and RTR.
+abbrev pub one : Bool → ℕ
+one t = cond t 1 0
+
+abbrev pub key : List ℕ → ℕ → ℕ
+key s n =
+    let ide = box s n 0 has 31 in
+    let rtr = box s n 1 has 4 in
+    box s n 0 / 2 ^ 18 % 2 ^ 11 * 2 ^ 21 + one (ide || rtr) * 2 ^ 20 + one ide * 2 ^ 19 + cond ide (box s n 0 % 2 ^ 18 * 2 + one rtr) 0
+
+-- A start names the mailbox that goes into the slot: on the bus the lowest candidate, or with MTOS (option bit 0) the one with the smallest
+-- key, the lower of two equal ones. With no candidate, and off the bus, it names 32 and nothing changes.
+pub record Start (s : List ℕ) (was now : Words) (named : ℕ) : Type 0 where
+  pub off : onBus was ≡ false → named ≡ 32
+  pub none : ((n : ℕ) → n < 32 → candidate was n ≡ false) → named ≡ 32
+  pub some : onBus was ≡ true → (n : ℕ) → n < 32 → candidate was n ≡ true → (named < 32) × (candidate was named ≡ true)
+  pub lowest : onBus was ≡ true → was OPTIONS has 0 ≡ false → (n : ℕ) → n < 32 → candidate was n ≡ true → named ≤ n
+  pub smallest : onBus was ≡ true → was OPTIONS has 0 ≡ true → (n : ℕ) → n < 32 → candidate was n ≡ true
+      → (key s named ≤ key s n) × (key s named ≡ key s n → named ≤ n)
+  pub slot : named < 32 → now SLOT ≡ named
+  pub idle : named ≡ 32 → now SLOT ≡ was SLOT
+  pub rest : Only (SLOT ∷ []) was now
+
+-- Sent: the slot is empty and the request is over, which TA tells, and MBTIF where MBIM asks for it; TEC falls by one if it can.
+pub record Sent (was now : Words) : Type 0 where
+  pub slot : now SLOT ≡ 31
+  pub trs : now TRS has-bits (λ n. was TRS has n && not (n is was SLOT))
+  pub trr : now TRR has-bits (λ n. was TRR has n && not (n is was SLOT))
+  pub ta : now TA has-bits (λ n. was TA has n || n is was SLOT)
+  pub mbtif : now MBTIF has-bits (λ n. was MBTIF has n || was MBIM has n && n is was SLOT)
+  pub tec : now TEC ≡ was TEC - 1
+  pub gif : Gif nothing was now
+  pub rest : Only (SLOT ∷ TRS ∷ TRR ∷ TA ∷ MBTIF ∷ TEC ∷ GIF ∷ []) was now
+
+-- Sent, the mailbox: its time stamp (word 1, bits 31 to 16) becomes TSC.
+pub record Stamped (n : ℕ) (s x : List ℕ) : Type 0 where
+  pub stamp : box x n 1 ≡ words s TSC * 65536 + box s n 1 % 65536
+  pub others : (j : ℕ) → j < 4 → j ≢ 1 → box x n j ≡ box s n j
+  pub elsewhere : BoxesStayBut n s x
+
+-- Not sent: the slot is empty. A request that was cancelled meanwhile is over, which AA and bit 4 of GIF tell; another one stays. TEC
+-- becomes t.
+pub record Unsent (t : ℕ) (was now : Words) : Type 0 where
+  pub slot : now SLOT ≡ 31
+  pub trs : now TRS has-bits (λ n. was TRS has n && not (n is was SLOT && was TRR has n))
+  pub trr : now TRR has-bits (λ n. was TRR has n && not (n is was SLOT))
+  pub aa : now AA has-bits (λ n. was AA has n || n is was SLOT && was TRR has n)
+  pub tec : now TEC ≡ t
+  pub gif : Gif (λ n. was TRR has was SLOT && n is 4) was now
+  pub rest : Only (SLOT ∷ TRS ∷ TRR ∷ AA ∷ TEC ∷ GIF ∷ []) was now
+
+-- An error of the sender adds 8 to TEC, which stops at 256.
+abbrev pub worse : ℕ → ℕ
+worse tec = atMost 256 (tec + 8)
+
+-- A receive error, on the bus, adds to REC, which stops at 255.
+pub record ReceiveError (more : ℕ) (was now : Words) : Type 0 where
+  pub heard : onBus was ≡ true → now REC ≡ atMost 255 (was REC + more)
+  pub unheard : onBus was ≡ false → now REC ≡ was REC
+  pub gif : Gif nothing was now
+  pub rest : Only (REC ∷ GIF ∷ []) was now
+
+-- Eleven recessive bits count in bus off alone; the 128th ends it.
+pub record Recessive (was now : Words) : Type 0 where
+  pub elsewhere : busOff was ≡ false → Only [] was now
+  pub counts : busOff was ≡ true → was RECOVERY < 127 → (now RECOVERY ≡ was RECOVERY + 1) × Only (RECOVERY ∷ []) was now
+  pub last : busOff was ≡ true → was RECOVERY ≡ 127
+      → (now TEC ≡ 0) × (now REC ≡ 0) × (now RECOVERY ≡ 0) × Only (TEC ∷ REC ∷ RECOVERY ∷ []) was now
+
+-- A tick counts TSC on; from 65,535 it goes to 0, which TSO and bit 3 of GIF tell. Asleep nothing counts.
+pub record Tick (was now : Words) : Type 0 where
+  pub asleep : was MODE ≡ 2 → Only [] was now
+  pub adds : was MODE ≢ 2 → was TSC < 65535 → (now TSC ≡ was TSC + 1) × Only (TSC ∷ []) was now
+  pub overflows : was MODE ≢ 2 → was TSC ≡ 65535
+      → (now TSC ≡ 0) × (now TSO ≡ 1) × Gif (λ n. n is 3) was now × Only (TSC ∷ TSO ∷ GIF ∷ []) was now
+
+-- A mode that is asked for waits in place of an earlier one, until the end of this step at least. Asking for the present mode leaves none.
+pub record Mode (asked : ℕ) (was now : Words) : Type 0 where
+  pub present : asked ≡ was MODE → now WAITING ≡ 4
+  pub other : asked ≢ was MODE → now WAITING ≡ asked
+  pub rest : Only (WAITING ∷ []) was now
+
+-- The events: options take the value.
+pub record Options (value : ℕ) (was now : Words) : Type 0 where
+  pub takes : now OPTIONS ≡ value
+  pub rest : Only (OPTIONS ∷ []) was now
+
+-- At the end of a step: is a mode waiting, and may it be taken? With an empty slot, and not in bus off.
+abbrev pub taken : Words → Bool
+taken w = not (w WAITING is 4) && (w SLOT is 31 && ltb (w TEC) 256)
+
+-- Then it is the mode, and none waits. Falling asleep clears both counters and all requests; waking, to normal from sleep, sets bit 6 of
+-- GIF. Here `was` are the words that the event itself left, `now` those in the image.
+pub record Ending (was now : Words) : Type 0 where
+  pub none : taken was ≡ false → Only [] was now
+  pub mode : taken was ≡ true → (now MODE ≡ was WAITING) × (now WAITING ≡ 4)
+  pub asleep : taken was ≡ true → was WAITING ≡ 2 → (now TEC ≡ 0) × (now REC ≡ 0) × (now TRS ≡ 0) × (now TRR ≡ 0)
+  pub awake : taken was ≡ true → was WAITING ≢ 2 → Only (MODE ∷ WAITING ∷ GIF ∷ []) was now
+  pub wakes : taken was ≡ true → now GIF has-bits (λ n. was GIF has n || was MODE is 2 && was WAITING is 0 && n is 6)
+  pub rest : taken was ≡ true → Only (MODE ∷ WAITING ∷ GIF ∷ TEC ∷ REC ∷ TRS ∷ TRR ∷ []) was now
