@@ -1,2 +1,2 @@
--- A promise leaves no choice.
-pub mod Unique
+-- The parts of an answer.
+pub mod Parts

@@ -1,11 +1,8 @@
--- Lists of tests: all hold, one follows from another, the first that holds.
-use Prim.Native.Nat.{ℕ, zero, suc, _+_, _<_}
-use mathlib.Core.Path.{_≡_, refl, sym, _∙_}
+-- Lists of tests: all hold, one follows from another.
+use mathlib.Core.Path.{_≡_, refl, sym}
 use mathlib.Core.Bool.{Bool, true, false, _&&_, _||_, false≢true}
 use mathlib.Core.List.{List, [], _∷_}
-use native.Mathlib.Omega.{arith}
-use lib.ListN.{getD}
-use Rattle.bits.specs.Tests.{every, everyFrom, firstFrom, implies}
+use Rattle.bits.specs.Tests.{every, everyFrom, implies}
 use Rattle.bits.proofs.Sets.{and-l, and-r}
 
 abbrev pub All : List Bool → Type 0
@@ -37,17 +34,3 @@ implied false b h = refl
 pub neither : (a b : Bool) → (a || b) ≡ false → (a ≡ false) × (b ≡ false)
 neither true b h = absurd (false≢true (sym h))
 neither false b h = (refl, h)
-
--- ---- the first test of a list that holds
-
--- where test k is the first that holds, its number is given
-pub first-at : (n : ℕ) (l : List Bool) (k : ℕ) → getD l k false ≡ true → ((j : ℕ) → j < k → getD l j false ≡ false) → firstFrom n l ≡ n + k
-first-at n [] k h none = absurd (false≢true h)
-first-at n (t ∷ l) zero h none = rw h (omega arith)
-first-at n (t ∷ l) (suc k) h none =
-    rw (none 0 (omega arith)) (first-at (n + 1) l k h (λ j i. none (suc j) (omega arith)) ∙ omega arith)
-
--- where none holds, 0
-pub first-none : (n : ℕ) (l : List Bool) → ((j : ℕ) → getD l j false ≡ false) → firstFrom n l ≡ 0
-first-none n [] none = refl
-first-none n (t ∷ l) none = rw (none 0) (first-none (n + 1) l (λ j. none (suc j)))

@@ -4,7 +4,6 @@ pub mod Rows
 pub mod Slot
 pub mod Keep
 pub mod Open
-pub mod Frame
 pub mod Writes
 pub mod Modes
 pub mod Frames

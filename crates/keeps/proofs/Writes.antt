@@ -20,8 +20,7 @@ use Rattle.refusals.specs.Refusal.{meet, turnedOff, turnedRound, registerBusy}
 use Rattle.good.proofs.Facts.{Core, GoodBlock}
 use Rattle.keeps.proofs.Words.{either, flag-within, gif-lt, within-spared}
 use Rattle.keeps.proofs.Slot.{trr-slot, slot-trs, slot-up}
-use Rattle.keeps.proofs.Rows.{_▸_, Each, row}
-use Rattle.keeps.proofs.Frame.{state-stays}
+use Rattle.keeps.proofs.Rows.{_▸_, Each, row, column, row-same}
 use Rattle.keeps.proofs.Keep.{keep-mc, keep-md, keep-trs, keep-trr, keep-ta, keep-aa, keep-rmp, keep-rml, keep-lam, keep-gam, keep-rfp, keep-cdr, keep-mbtif, keep-mbrif, keep-mbim, keep-gif, keep-gim, keep-bcr1, keep-bcr2, keep-tsc, keep-tso}
 use Rattle.keeps.proofs.Open.{Open, still-open}
 
@@ -123,6 +122,16 @@ written-core : (b : Block) (t v : ℕ) → Core b → b .mode ≢ sleep → v < 
 unfolding written
 written-core b t v k awake hv = row (Accepted b v) (writes b v) b (rows b k v awake hv) (λ n a free. k) t
 
+-- what every row of the table leaves alone, every write does
+pub written-leaves : (f : Block → ℕ) (b : Block) (v : ℕ) → column (λ n x. f x) (writes b v) ≡ column (λ n x. f b) (writes b v)
+    → (t : ℕ) → f (written b t v) ≡ f b
+unfolding written
+written-leaves f b v e = row-same (λ n x. f x) (λ n x. f b) (writes b v) b e (λ n. refl)
+
+waiting-stays : (b : Block) (t v : ℕ) → written b t v .waiting ≡ b .waiting
+unfolding requested cancelled released noted
+waiting-stays b t v = written-leaves (λ x. x .waiting) b v refl t
+
 pub written-open : (b : Block) (t v : ℕ) → GoodBlock b → b .mode ≢ sleep → v < 2 ^ 32 → registerAllowed t v ≡ true → registerBusy b t v ≡ false
     → Open (written b t v)
-written-open b t v g awake hv a free = still-open g (state-stays b t v 23 refl) (written-core b t v (g .core) awake hv a free)
+written-open b t v g awake hv a free = still-open g (waiting-stays b t v) (written-core b t v (g .core) awake hv a free)

@@ -1,14 +1,13 @@
 -- The words of a block, and those of an image.
 use Prim.Native.Nat.{ℕ, zero, suc, _+_, _*_, _/_, _%_, _<_, _≤_}
 use mathlib.Core.Path.{_≡_, refl, sym, _∙_, ap, subst}
-use mathlib.Core.Bool.{Bool, true, false, false≢true}
+use mathlib.Core.Bool.{Bool, true, false, cond, false≢true}
 use mathlib.Core.List.{List, [], _∷_}
 use native.Mathlib.Omega.{arith}
 use lib.Dec.{eqb}
-use lib.ListN.{getD, length, List·getD-eq-default}
+use lib.ListN.{getD, length, drop, List·getD-eq-default}
 use lib.Seq.{ext-getD}
 use borrow.Author.Tests.{eqb-true}
-use Rattle.bits.specs.Tests.{every}
 use Rattle.bits.proofs.Tests.{All as Hold, all}
 use Rattle.words.specs.Word.{wordAt, wordsOf}
 use Rattle.words.proofs.Rows.{word-of}
@@ -18,15 +17,26 @@ use Rattle.registers.specs.Block.{blockOf, toWords}
 use Rattle.mailboxes.proofs.Spliced.{byteOf, word-byte, from}
 use Rattle.good.specs.Good.{goodSpare, spareWords}
 use Rattle.good.proofs.Image.{GoodImage}
-use Rattle.keeps.proofs.Frame.{patched, unpatched}
 use Rattle.rules.specs.Words.{Words, words, byte, among, Only}
 
 abbrev pub ofBlock : Block → Words
 ofBlock b k = getD (toWords b) k 0
 
+-- ---- words that stay
+
+-- the old words, with new ones at the numbers where the test holds
+abbrev pub patched : (ℕ → Bool) → List ℕ → List ℕ → List ℕ
+patched p new [] = []
+patched p new (a ∷ old) = cond (p 0) (getD new 0 0) a ∷ patched (λ k. p (suc k)) (drop 1 new) old
+
+old-word : (p : ℕ → Bool) (new old : List ℕ) (k : ℕ) → p k ≡ false → getD (patched p new old) k 0 ≡ getD old k 0
+old-word p new [] k e = refl
+old-word p new (a ∷ old) zero e = rw e
+old-word p new (a ∷ old) (suc k) e = old-word (λ n. p (suc n)) (drop 1 new) old k e
+
 -- the new words are the old ones but for those listed
 pub only : (l : List ℕ) (y x : Block) → toWords x ≡ patched (λ k. among k l) (toWords x) (toWords y) → Only l (ofBlock y) (ofBlock x)
-only l y x e = unpatched (λ k. among k l) (toWords x) (toWords y) e
+only l y x e k h = ap (λ (w : List ℕ). getD w k 0) e ∙ old-word (λ k. among k l) (toWords x) (toWords y) k h
 
 pub still : (l : List ℕ) (y x : Block) → x ≡ y → Only l (ofBlock y) (ofBlock x)
 still l y x e k h = ap (λ (b : Block). getD (toWords b) k 0) e

@@ -1,4 +1,4 @@
--- What a C caller sees: the promises of fresh, step and read are the rulebook's, which leave no choice.
+-- What a C caller sees: the promises of fresh, step, read and the listing are the rulebook's, which leave no choice.
 use Prim.Native.Nat.{ℕ, _+_, _*_, _^_}
 use mathlib.Core.Path.{_≡_, sym, _∙_, ap}
 use mathlib.Core.List.{List}
@@ -7,10 +7,13 @@ use Rattle.answers.specs.Answer.{Outcome, Reading, Promise, ReadPromise}
 use Rattle.fresh.specs.Fresh.{fresh}
 use Rattle.reading.specs.Read.{read}
 use Rattle.model.specs.Step.{step}
-use Rattle.rules.specs.Calls.{Call, FreshCall, StepCall, ReadCall}
+use Rattle.trace.specs.Trace.{Listed}
+use Rattle.trace.proofs.Unique.{same-bytes, same-answer}
+use Rattle.rules.specs.Calls.{Call, FreshCall, StepCall, ReadCall, ListingCall}
 use Rattle.rules.proofs.Fresh.{fresh-meets, fresh-one}
 use Rattle.rules.proofs.Reading.{reads, read-one}
-use Rattle.rules.proofs.Exact.{step-meets, rules-one}
+use Rattle.rules.proofs.Listing.{lists, listed}
+use Rattle.rules.proofs.Step.{step-meets, rules-one}
 
 -- ---- a promise about an outcome that keeps the rules
 
@@ -25,6 +28,9 @@ step-call s e x a b y = call _ (step s e) x a (step-meets s e b y)
 
 pub read-call : (s : List ℕ) (k a : ℕ) → Bytes s → ReadPromise (read s k) a → ReadCall s k a
 read-call s k a b p = record { reading = read s k; keeps = reads s b k; packs = p .answered }
+
+pub listing-call : (f o x : List ℕ) (a : ℕ) → Bytes f → Listed f o x a → ListingCall f o x a
+listing-call f o x a b = lists f b o x a
 
 -- ---- two results that keep the rules coincide
 
@@ -46,3 +52,9 @@ read-unique s h k a b p q =
     p .packs
     ∙ ap (λ (r : Reading). r .value + 2 ^ 32 * r .refusal) (read-one s h k (p .reading) (q .reading) (p .keeps) (q .keeps))
     ∙ sym (q .packs)
+
+pub listing-unique : (f o : List ℕ) → Bytes f → (x y : List ℕ) (a b : ℕ) → ListingCall f o x a → ListingCall f o y b → (x ≡ y) × (a ≡ b)
+listing-unique f o h x y a b p q =
+    let k = listed f h o x a p in
+    let l = listed f h o y b q in
+    (same-bytes k l, same-answer k l)

@@ -1,9 +1,9 @@
 -- The step keeps demands 1 and 2.
-use Prim.Native.Nat.{ℕ, zero, suc, _+_, _*_, _%_, _<_}
+use Prim.Native.Nat.{ℕ, suc, _+_, _*_, _%_, _<_}
 use mathlib.Core.Path.{_≡_, refl, sym, _∙_, ap, subst}
 use mathlib.Core.Bool.{Bool, true, false, _||_, false≢true}
 use mathlib.Core.List.{List}
-use mathlib.Core.Logic.{_≢_, inl}
+use mathlib.Core.Logic.{inl}
 use native.Mathlib.Decide.{ℕ-discrete}
 use native.Mathlib.Omega.{arith}
 use Rattle.words.proofs.Bytes.{Bytes}
@@ -15,13 +15,13 @@ use Rattle.good.proofs.Image.{image-good}
 use Rattle.rules.specs.Words.{words, box, _has_, BoxesStayBut, MD}
 use Rattle.rules.specs.Image.{Good}
 use Rattle.rules.specs.Events.{operation, target, unknown, asleep, unused, bad, busy, locked, pointless, refusalOf}
-use Rattle.rules.specs.Receiving.{First, Heard, Frame}
+use Rattle.rules.specs.Receiving.{First, Frame}
 use Rattle.rules.specs.Sending.{onBus}
 use Rattle.rules.specs.Step.{Refused, Accepted}
 use Rattle.rules.specs.Calls.{StepCall}
 use Rattle.rules.specs.Demands.{Applies, not-good, is-unknown, is-asleep, not-allowed, is-busy, is-locked, slot-empty, Demand1, Demand2}
-use Rattle.rules.proofs.Good.{good-rule, rule-good, false-of}
-use Rattle.rules.proofs.Exact.{step-meets, rules-one}
+use Rattle.rules.proofs.Good.{good-rule, rule-good}
+use Rattle.rules.proofs.Step.{step-meets, rules-one}
 use Rattle.rules.proofs.Calls.{step-unique}
 
 module _ (s e x : List ℕ) (a : ℕ) (bytes : Bytes s) (c : StepCall s e x a) where
@@ -135,7 +135,7 @@ module _ (s e x : List ℕ) (a : ℕ) (bytes : Bytes s) (c : StepCall s e x a) w
       at p true h = p .heard h .nobody no-first .1
 
 pub demand1 : Demand1
-demand1 = record { refused = λ s e x a b c r. refused s e x a b c r; accepted = λ s e x a b c. accepted s e x a b c }
+demand1 = record { refused = λ s e x a b c r. refused s e x a b c r; accepted = λ s e x a b c. accepted s e x a b c; malformed = λ f o x a c l n. c .listing l .1 .refused n }
 
 pub demand2 : Demand2
 demand2 =

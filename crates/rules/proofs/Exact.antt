@@ -1,75 +1,15 @@
--- The step is what the rulebook asks, and the rulebook asks nothing else: an outcome meets it exactly where it is the step's.
-use Prim.Native.Nat.{ℕ}
-use mathlib.Core.Path.{_≡_, refl, sym, _∙_, ap, subst}
-use mathlib.Core.Bool.{Bool, true, false, false≢true}
-use mathlib.Core.List.{List}
-use mathlib.Core.Logic.{_≢_}
-use native.Mathlib.Decide.{ℕ-discrete}
-use borrow.Author.Tests.{eq-eqb, ne-eqb}
-use Rattle.words.proofs.Bytes.{Bytes}
-use Rattle.answers.specs.Answer.{Outcome as Result, refused}
-use Rattle.good.specs.Good.{goodImage}
-use Rattle.events.specs.Decode.{event}
-use Rattle.refusals.specs.Refusal.{refusal}
+-- An outcome, a reading or a text keeps the rulebook exactly where it is the one that the product's definitions give.
+use mathlib.Core.Path.{sym, subst}
 use Rattle.fresh.specs.Fresh.{fresh}
 use Rattle.reading.specs.Read.{read}
-use Rattle.model.specs.Step.{accepted, step}
-use Rattle.rules.specs.Image.{Good}
-use Rattle.rules.specs.Events.{refusalOf}
+use Rattle.model.specs.Step.{step}
+use Rattle.rules.specs.Step.{Fresh, Rules}
 use Rattle.rules.specs.Reading.{Reads}
-use Rattle.rules.specs.Step.{Accepted, Fresh, Rules}
 use Rattle.rules.specs.Exact.{Exact}
-use Rattle.rules.proofs.Outcomes.{refused-is, refused-one}
 use Rattle.rules.proofs.Reading.{reads, read-one}
 use Rattle.rules.proofs.Fresh.{fresh-meets, fresh-one}
-use Rattle.rules.proofs.Good.{good-rule, rule-good, false-of}
-use Rattle.rules.proofs.Refusals.{same-refusal}
-use Rattle.rules.proofs.Meets.{meets}
-use Rattle.rules.proofs.Complete.{one}
-
-module _ (s e : List ℕ) (bytes : Bytes s) (small : Bytes e) where
-  not-good : goodImage s ≡ false → step s e ≡ refused s 1
-  unfolding step refusal
-  not-good h = rw h
-
-  refuses : refusal s e ≢ 0 → step s e ≡ refused s (refusal s e)
-  unfolding step
-  refuses h = rw (ne-eqb (refusal s e) 0 h)
-
-  accepts : refusal s e ≡ 0 → step s e ≡ accepted s (event e)
-  unfolding step
-  accepts h = rw (eq-eqb (refusal s e) 0 h)
-
-  -- the step meets the rulebook
-  pub step-meets : Rules s e (step s e)
-  step-meets =
-      record {
-        not-good = λ n. refused-is s 1 (step s e) (not-good (false-of (goodImage s) (λ h. n (good-rule s bytes h))));
-        refuses =
-            λ g n.
-            let q = same-refusal s e bytes small (rule-good s bytes g) in
-            refused-is s (refusalOf s e) (step s e) (refuses (λ z. n (q ∙ z)) ∙ ap (refused s) (sym q));
-        accepts =
-            λ g z.
-            let h = rule-good s bytes g in
-            let k = sym (same-refusal s e bytes small h) ∙ z in
-            subst (λ (o : Result). Accepted s e o) (sym (accepts k)) (meets s e bytes small h k);
-      }
-
-  -- and nothing else does
-  pub rules-one : (o u : Result) → Rules s e o → Rules s e u → o ≡ u
-  rules-one o u p q = at (goodImage s) refl (ℕ-discrete (refusalOf s e) 0)
-    where
-      at : (t : Bool) → goodImage s ≡ t → Dec (refusalOf s e ≡ 0) → o ≡ u
-      at false h d =
-          let n : Good s → ⊥ = λ g. false≢true (sym h ∙ rule-good s bytes g) in
-          refused-one s 1 o u (p .not-good n) (q .not-good n)
-      at true h (no d) =
-          let g = good-rule s bytes h in
-          refused-one s (refusalOf s e) o u (p .refuses g d) (q .refuses g d)
-      at true h (yes z) =
-          let g = good-rule s bytes h in
-          one s e bytes small h (sym (same-refusal s e bytes small h) ∙ z) o u (p .accepts g z) (q .accepts g z)
+use Rattle.rules.proofs.Step.{step-meets, rules-one}
+use Rattle.rules.proofs.Listing.{listing-exact}
 
 pub exact : Exact
 exact =
@@ -82,4 +22,5 @@ exact =
       read-exact =
           λ s b k r.
           (λ p. read-one s b k r (read s k) p (reads s b k), λ q. subst (Reads s k) (sym q) (reads s b k));
+      listing-exact = listing-exact;
     }

@@ -1,4 +1,5 @@
 -- That the step and the read meet the rulebook, and that it leaves nothing open.
+pub mod Any
 pub mod Blocks
 pub mod Sending
 pub mod Starting
@@ -13,6 +14,10 @@ pub mod Good
 pub mod Refusals
 pub mod Reading
 pub mod Fresh
+pub mod Step
+pub mod Numerals
+pub mod Files
+pub mod Listing
 pub mod Exact
 pub mod Calls
 pub mod Demands

@@ -8,11 +8,11 @@ use native.Mathlib.Omega.{arith}
 use lib.Dec.{eqb, ltb, leb}
 use lib.Bits.{bitAnd, bitXor}
 use lib.ListN.{length, List·getD-eq-default}
-use borrow.Author.Tests.{eqb-true, eq-eqb, ne-eqb, ltb-false, lt-ltb, le-ltb, le-leb, lt-leb, not-true}
+use borrow.Author.Tests.{eqb-true, eq-eqb, ne-eqb, ltb-false, lt-ltb, le-ltb, le-leb, lt-leb}
 use Rattle.bits.specs.Bit.{digit, bit, without, setBit, mask}
 use Rattle.bits.specs.Below.{allBelow}
 use Rattle.bits.specs.Tests.{topDown, gapDown}
-use Rattle.bits.proofs.Laws.{bit-zero, bit-high, bit-and, bit-or, bit-xor, bit-mask, bit-without, same-bits}
+use Rattle.bits.proofs.Laws.{bit-high, bit-and, bit-or, bit-xor, bit-mask, bit-without}
 use Rattle.bits.proofs.Sets.{and-lt-l, top-up}
 use Rattle.bits.proofs.Below.{each-below, all-below}
 use Rattle.words.proofs.Bytes.{Bytes, word-lt}
@@ -28,8 +28,9 @@ use Rattle.events.proofs.Unused.{data-unused, unused-data}
 use Rattle.good.specs.Good.{goodImage}
 use Rattle.good.proofs.Image.{GoodImage, image-facts}
 use Rattle.refusals.specs.Refusal as product
-use Rattle.rules.specs.Words.{Words, _has_, _is_, words, byte, box, among, any}
+use Rattle.rules.specs.Words.{Words, _has_, _is_, byte, box, any}
 use Rattle.rules.specs.Events.{operation, target, part, value, rtr, unknown, asleep, unused, registerBad, wordBad, bad, turned, busy, locked, pointless, later, refusalOf}
+use Rattle.rules.proofs.Any.{any-word}
 use Rattle.rules.proofs.Blocks.{ofBlock, of-block}
 
 -- ---- of truth values
@@ -86,18 +87,6 @@ top-bit v h = at (decLt v (2 ^ 31))
     at : Dec (v < 2 ^ 31) → not (topDown v) ≡ (v has 31)
     at (yes l) = rw (lt-ltb v (2 ^ 31) l) (sym (bit-high 31 31 v l (omega arith)))
     at (no l) = rw (le-ltb v (2 ^ 31) (omega arith)) (sym (top-up v h (omega arith)))
-
-any-word : (w : ℕ) (p : ℕ → Bool) → w < 2 ^ 32 → ((n : ℕ) → bit w n ≡ p n) → not (eqb w 0) ≡ any p
-any-word w p h f = ap not (at (allBelow (λ n. not (p n)) 32) refl)
-  where
-    at : (t : Bool) → allBelow (λ n. not (p n)) 32 ≡ t → eqb w 0 ≡ t
-    at true e = eq-eqb _ _ (same-bits w 0 (λ n. none n (decLt n 32) ∙ sym (bit-zero n)))
-      where
-        none : (n : ℕ) → Dec (n < 32) → bit w n ≡ false
-        none n (yes l) = f n ∙ not-true _ (each-below (λ n. not (p n)) 32 e n l)
-        none n (no l) = bit-high n 32 w h (omega arith)
-    at false e =
-        ne-eqb _ _ (λ z. false≢true (sym e ∙ all-below (λ n. not (p n)) 32 (λ n l. ap not (sym (f n) ∙ ap (λ (x : ℕ). bit x n) z ∙ bit-zero n))))
 
 -- a test among others that do not apply
 pad1 : (x : Bool) → x ≡ (x || false)

@@ -10,7 +10,7 @@ use lib.Dec.{eqb}
 use lib.ListN.{getD, replicate}
 use lib.Bits.{or-zero-r}
 use borrow.Author.Tests.{eqb-true, eq-eqb, ne-eqb, le-ltb}
-use Rattle.bits.specs.Bit.{bit, flag}
+use Rattle.bits.specs.Bit.{bit}
 use Rattle.bits.proofs.Laws.{bit-zero, same-bits}
 use Rattle.registers.specs.declared.Block.{Block}
 use Rattle.registers.specs.Block.{withGif, withTsc, withTec, withRec, withRecovery, ofWords}

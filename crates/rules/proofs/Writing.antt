@@ -3,22 +3,22 @@ use Prim.Native.Nat.{ℕ, _<_, _^_}
 use mathlib.Core.Path.{_≡_, refl, sym, _∙_, ap, subst}
 use mathlib.Core.Bool.{Bool, true, false, cond, not, _&&_, _||_, and-false, false≢true}
 use mathlib.Core.List.{[], _∷_}
-use native.Mathlib.Decide.{decLt}
 use native.Mathlib.Omega.{arith}
 use lib.Dec.{eqb}
-use borrow.Author.Tests.{eqb-true, eq-eqb, ne-eqb, not-true}
+use lib.Bits.{bitAnd}
+use borrow.Author.Tests.{eqb-true, ne-eqb}
 use Rattle.bits.specs.Bit.{bit}
-use Rattle.bits.specs.Below.{allBelow}
-use Rattle.bits.proofs.Laws.{bit-zero, bit-high, same-bits, bit-without}
-use Rattle.bits.proofs.Below.{each-below, all-below}
+use Rattle.bits.proofs.Laws.{bit-high, bit-without}
+use Rattle.bits.proofs.Sets.{within-le, and-within-r, without-lt}
 use Rattle.registers.specs.declared.Block.{Block}
 use Rattle.registers.specs.Writes.{slotMask, ending, cancelled, released, noted, requested, written}
 use Rattle.registers.specs.Modes.{risen}
 use Rattle.registers.proofs.Flags.{requested-trs, released-rmp, released-rml, released-rfp, directed-md, ending-bit, late-bit, cancelled-trs, cancelled-trr, cancelled-aa, cancelled-gif, noted-gif, slot-bit}
-use Rattle.keeps.proofs.Frame.{state-stays}
+use Rattle.keeps.proofs.Writes.{written-leaves}
 use Rattle.model.proofs.Meets.{calm}
-use Rattle.rules.specs.Words.{Words, _has_, _is_, among, Only, MC, MD, TRS, TRR, TA, AA, RMP, RML, LAM, GAM, RFP, CDR, MBTIF, MBRIF, MBIM, GIF, GIM, BCR1, BCR2, TSC, SLOT, TSO}
-use Rattle.rules.specs.Writing.{Write}
+use Rattle.rules.specs.Words.{Words, _has_, _is_, among, any, Only, MC, MD, TRS, TRR, TA, AA, RMP, RML, LAM, GAM, RFP, CDR, MBTIF, MBRIF, MBIM, GIF, GIM, BCR1, BCR2, TSC, SLOT, TSO}
+use Rattle.rules.specs.Writing.{ends, Write}
+use Rattle.rules.proofs.Any.{any-word}
 use Rattle.rules.proofs.Blocks.{ofBlock, only, among-all}
 
 module _ (b : Block) (v : ℕ) (high : b .trs < 2 ^ 31) where
@@ -44,25 +44,13 @@ module _ (b : Block) (v : ℕ) (high : b .trs < 2 ^ 31) where
           ne-eqb n (b .slot) (λ r. false≢true (sym (bit-high n 31 (b .trs) high (omega (arith, eqb-true (b .slot) 31 q))) ∙ e)) in
           ap (λ (x : Bool). bit v n && bit (b .trs) n && f x) (slot-bit b n ∙ rw (q, z))
 
-  abbrev ends : ℕ → Bool
-  ends n = v has n && b .trs has n && not (n is b .slot)
-
-  ends-bit : (n : ℕ) → bit (ending b v) n ≡ ends n
+  ends-bit : (n : ℕ) → bit (ending b v) n ≡ ends (ofBlock b) v n
   ends-bit n = ending-bit b v n ∙ at-slot not n
 
-  any : not (eqb (ending b v) 0) ≡ not (allBelow (λ n. not (ends n)) 32)
-  any = ap not (at (allBelow (λ n. not (ends n)) 32) refl)
-    where
-      at : (t : Bool) → allBelow (λ n. not (ends n)) 32 ≡ t → eqb (ending b v) 0 ≡ t
-      at true e =
-          eq-eqb _ _ (same-bits (ending b v) 0 (λ n. ends-bit n ∙ none n (decLt n 32) ∙ sym (bit-zero n)))
-        where
-          none : (n : ℕ) → Dec (n < 32) → ends n ≡ false
-          none n (yes l) = not-true _ (each-below (λ n. not (ends n)) 32 e n l)
-          none n (no l) = rw (bit-high n 31 (b .trs) high (omega arith), and-false (bit v n))
-      at false e =
-          ne-eqb _ _
-          (λ z. false≢true (sym e ∙ all-below (λ n. not (ends n)) 32 (λ n l. ap not (sym (ends-bit n) ∙ ap (λ (x : ℕ). bit x n) z ∙ bit-zero n))))
+  some : not (eqb (ending b v) 0) ≡ any (ends (ofBlock b) v)
+  some =
+      let l : bitAnd v (b .trs) < 2 ^ 32 = omega (arith, within-le (and-within-r v (b .trs)), high) in
+      any-word (ending b v) (ends (ofBlock b) v) (without-lt (slotMask b) l) ends-bit
 
   -- a statement of what is left, at a register by its number
   by : (c : ℕ) (P : Words → Type 0) → P (after c) → (t : ℕ) → t ≡ c → P (after t)
@@ -101,23 +89,25 @@ module _ (b : Block) (v : ℕ) (high : b .trs < 2 ^ 31) where
             by TRR (λ now. (n : ℕ) → (now TRR has n) ≡ (was TRR has n || v has n && was TRS has n && n is was SLOT))
             (λ n. cancelled-trr b v n ∙ ap (λ (x : Bool). bit (b .trr) n || x) (late-bit b v n ∙ at-slot (λ x. x) n)) t;
         trr-trs =
-            by TRR (λ now. (n : ℕ) → (now TRS has n) ≡ (was TRS has n && not (ends n)))
+            by TRR (λ now. (n : ℕ) → (now TRS has n) ≡ (was TRS has n && not (ends was v n)))
             (λ n. cancelled-trs b v n ∙ ap (λ (x : Bool). bit (b .trs) n && not x) (ends-bit n)) t;
         trr-aa =
-            by TRR (λ now. (n : ℕ) → (now AA has n) ≡ (was AA has n || ends n))
+            by TRR (λ now. (n : ℕ) → (now AA has n) ≡ (was AA has n || ends was v n))
             (λ n. cancelled-aa b v n ∙ ap (λ (x : Bool). bit (b .aa) n || x) (ends-bit n)) t;
         trr-gif =
-            by TRR (λ now. (i : ℕ) → (now GIF has i) ≡ (was GIF has i || not (allBelow (λ n. not (ends n)) 32) && i is 4))
-            (λ i. cancelled-gif b v i ∙ ap (λ (x : Bool). bit (b .gif) i || x && eqb i 4) any) t;
+            by TRR (λ now. (i : ℕ) → (now GIF has i) ≡ (was GIF has i || any (ends was v) && i is 4))
+            (λ i. cancelled-gif b v i ∙ ap (λ (x : Bool). bit (b .gif) i || x && eqb i 4) some) t;
         trr-rest = by TRR (λ now. Only (TRS ∷ TRR ∷ AA ∷ GIF ∷ []) was now) (only (TRS ∷ TRR ∷ AA ∷ GIF ∷ []) b _ refl) t;
       }
 
   -- no flag of the counters rises
   written-tec : (t : ℕ) → written b t v .tec ≡ b .tec
-  written-tec t = state-stays b t v 20 refl
+  unfolding requested cancelled released noted
+  written-tec = written-leaves (λ x. x .tec) b v refl
 
   written-rec : (t : ℕ) → written b t v .rec ≡ b .rec
-  written-rec t = state-stays b t v 21 refl
+  unfolding requested cancelled released noted
+  written-rec = written-leaves (λ x. x .rec) b v refl
 
   pub write-step : (t : ℕ) → Write t v (ofBlock b) (ofBlock (risen b (written b t v)))
   write-step t =

@@ -1,5 +1,4 @@
 -- "The image": the register words of a fresh model, which a reset makes again.
-use Prim.Native.Nat.{ℕ}
 use mathlib.Core.Path.{_≡_}
 use mathlib.Core.List.{[], _∷_}
 use Rattle.rules.specs.Words.{Words, Only, MD, MODE, WAITING, SLOT}

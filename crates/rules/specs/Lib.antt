@@ -9,6 +9,7 @@ pub mod Receiving
 pub mod Sending
 pub mod Fresh
 pub mod Step
+pub mod Listing
 pub mod Calls
 pub mod Exact
 pub mod Demands

@@ -19,7 +19,7 @@ use Rattle.good.proofs.Image.{good-slot}
 use Rattle.refusals.specs.Refusal.{refusal}
 use Rattle.refusals.proofs.Order.{refusal-bad, refusal-most}
 use Rattle.answers.specs.Answer.{Outcome as Result, refused, packed}
-use Rattle.answers.proofs.Unique.{refusal-of, mailbox-of, count-of}
+use Rattle.answers.proofs.Parts.{refusal-of, mailbox-of, count-of}
 use Rattle.model.specs.Step.{goes, named, namedBy, countOf, accepted, step}
 use Rattle.trace.specs.Trace.{lineOf, line}
 

@@ -1,2 +1,0 @@
--- What a register write may touch.
-pub mod Touch

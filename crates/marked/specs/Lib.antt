@@ -1,0 +1,2 @@
+-- The numbers that document 01 marks.
+pub mod Marked
