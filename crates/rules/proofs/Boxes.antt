@@ -1,4 +1,4 @@
--- The step meets the rules of mailbox words: a write, and the time stamp of what was sent.
+-- The step meets the rule of mailbox words.
 use Prim.Native.Nat.{ℕ, _+_, _*_, _^_, _<_, _≤_}
 use mathlib.Core.Path.{_≡_, _∙_}
 use mathlib.Core.List.{List}
@@ -48,13 +48,13 @@ module _ (s : List ℕ) (g : GoodImage s) (n : ℕ) (there : n < 32) (b : Block)
         at (yes l) = inl (omega arith)
         at (no l) = inr (omega arith)
 
-    pub others : (i : ℕ) → i < 4 → i ≢ j → box x n i ≡ box s n i
+    others : (i : ℕ) → i < 4 → i ≢ j → box x n i ≡ box s n i
     others i h d = word-at i h ∙ word-other m (4 * j) v (4 * i) (apart i d) ∙ word-of s n (4 * i) (omega arith)
 
-    pub elsewhere : BoxesStayBut n s x
+    elsewhere : BoxesStayBut n s x
     elsewhere i l o = byte-stays (withMailbox s n m') b i l ∙ byte-out s n m' room size' i o
 
-    pub taken : v < 2 ^ 32 → box x n j ≡ v
+    taken : v < 2 ^ 32 → box x n j ≡ v
     taken h = word-at j known ∙ word-same m (4 * j) v (omega (arith, size)) h
 
     pub box-write : v < 2 ^ 32 → BoxWrite n j v s x

@@ -28,13 +28,13 @@ use Rattle.rules.specs.Words.{Words, _has_, _is_, words, byte, box, Boxe
 use Rattle.rules.specs.Events.{operation, target, part, value, rtr}
 use Rattle.rules.specs.Writing.{BoxWrite}
 use Rattle.rules.specs.Receiving.{Stored, Frame}
-use Rattle.rules.specs.Sending.{onBus, candidate, key, Start, Ending, Answers, Stamped}
-use Rattle.rules.specs.Step.{Quiet, Does, Accepted}
+use Rattle.rules.specs.Sending.{onBus, candidate, key, Start, Ending, Answers}
+use Rattle.rules.specs.Step.{stamped, Quiet, Does, Accepted}
 use Rattle.rules.proofs.Outcomes.{outcome-by}
 use Rattle.rules.proofs.Blocks.{ofBlock, of-block, image-by}
 use Rattle.rules.proofs.Starting.{candidate-same}
 use Rattle.rules.proofs.Receiving.{first, missed}
-use Rattle.rules.proofs.Unique.{Agree, flags, by-only, tick-one, sent-one, unsent-one, ending-one, recessive-one, receive-error-one, mode-one, options-one, write-one, reset-one}
+use Rattle.rules.proofs.Unique.{Agree, flags, by-only, tick-one, sent-one, unsent-one, ending-one, recessive-one, receive-error-one, mode-one, write-one, reset-one}
 
 -- ---- a start
 
@@ -98,13 +98,6 @@ module _ (s x y : List ℕ) (bx : Bytes x) (by : Bytes y) where
       at : (i : ℕ) → i < 4 → (t : Bool) → eqb i j ≡ t → box x n i ≡ box y n i
       at i l true e = ap (box x n) (eqb-true i j e) ∙ p .takes ∙ sym (q .takes) ∙ ap (box y n) (sym (eqb-true i j e))
       at i l false e = p .others i l e ∙ sym (q .others i l e)
-
-  stamped-one : (n : ℕ) → Stamped n s x → Stamped n s y → Boxes
-  stamped-one n p q = by-words n (λ i l. at i l (ℕ-discrete i 1)) (p .elsewhere) (q .elsewhere)
-    where
-      at : (i : ℕ) → i < 4 → Dec (i ≡ 1) → box x n i ≡ box y n i
-      at i l (yes e) = ap (box x n) e ∙ p .stamp ∙ sym (q .stamp) ∙ ap (box y n) (sym e)
-      at i l (no d) = p .others i l d ∙ sym (q .others i l d)
 
   stored-boxes : (e : List ℕ) (n : ℕ) (was a b : Words) → Stored s e n was a x → Stored s e n was b y → Boxes
   stored-boxes e n was a b p q = within n bytes (p .elsewhere) (q .elsewhere)
@@ -256,7 +249,7 @@ module _ (s e : List ℕ) (a b : Words) (o u : Result) (bo : Bytes (o .image)) (
             let y = q .sent h z in
             record {
               same-words = sent-one was a b (x .0) (y .0);
-              same-boxes = stamped-one s (o .image) (u .image) bo bu (was SLOT) (x .1) (y .1);
+              same-boxes = box-write-one s (o .image) (u .image) bo bu (was SLOT) 1 (stamped s (was SLOT)) (x .1) (y .1);
               same-mailbox = x .2 .0 ∙ sym (y .2 .0);
               same-count = x .2 .1 ∙ sym (y .2 .1);
             }
@@ -312,7 +305,9 @@ module _ (s e : List ℕ) (a b : Words) (o u : Result) (bo : Bytes (o .image)) (
         at (suc (suc (suc (suc (suc (suc (suc (suc zero)))))))) h =
             quiet-one (mode-one was a b (value e) (p .mode h .0) (q .mode h .0)) (p .mode h .1) (q .mode h .1)
         at (suc (suc (suc (suc (suc (suc (suc (suc (suc zero))))))))) h =
-            quiet-one (options-one was a b (value e) (p .options h .0) (q .options h .0)) (p .options h .1) (q .options h .1)
+            let x = p .options h in
+            let y = q .options h in
+            quiet-one (by-only was a b (OPTIONS ∷ []) (x .1) (y .1) (x .0 ∙ sym (y .0), tt)) (x .2) (y .2)
         at (suc (suc (suc (suc (suc (suc (suc (suc (suc (suc zero)))))))))) h =
             quiet-one (reset-one a b (p .reset h .0) (q .reset h .0)) (p .reset h .1) (q .reset h .1)
         at (suc (suc (suc (suc (suc (suc (suc (suc (suc (suc (suc k))))))))))) h = absurd (fair (suc (suc (suc (suc (suc (suc (suc (suc (suc (suc (suc k))))))))))) h)
@@ -324,12 +319,12 @@ module _ (s e : List ℕ) (bytes : Bytes s) (small-bytes : Bytes e) (g : goodIma
   one p q =
       let t = taken s e bytes small-bytes g z in
       let w = of-block s (t .good) in
-      let bo : Bytes (o .image) = record { small = p .bytes } in
-      let bu : Bytes (u .image) = record { small = q .bytes } in
+      let bo : Bytes (o .image) = record { small = p .size .1 } in
+      let bu : Bytes (u .image) = record { small = q .size .1 } in
       let x = subst (λ (v : Words). Does s e v (p .middle) o) w (p .does) in
       let y = subst (λ (v : Words). Does s e v (q .middle) u) w (q .does) in
       let r = all-operations s e (p .middle) (q .middle) o u bo bu t x y in
       let mids : p .middle ≡ q .middle = λ i k. r .same-words k i in
       let ends = ending-one (q .middle) (words (o .image)) (words (u .image)) (subst (λ (v : Words). Ending v (words (o .image))) mids (p .ending)) (q .ending) in
-      let image = image-by (o .image) (u .image) (p .size) (q .size) bo bu (r .same-boxes) ends in
+      let image = image-by (o .image) (u .image) (p .size .0) (q .size .0) bo bu (r .same-boxes) ends in
       outcome-by o u image (p .refusal ∙ sym (q .refusal)) (r .same-mailbox) (r .same-count)

@@ -1,8 +1,8 @@
 -- An accepted step meets the rulebook.
-use Prim.Native.Nat.{ℕ, _+_, _*_, _%_, _^_, _<_}
+use Prim.Native.Nat.{ℕ, _+_, _*_, _%_, _^_}
 use mathlib.Core.Path.{_≡_, refl, sym, _∙_, ap, subst}
 use mathlib.Core.Bool.{true}
-use mathlib.Core.List.{List, []}
+use mathlib.Core.List.{List, [], _∷_}
 use mathlib.Core.Logic.{_≢_}
 use native.Mathlib.Omega.{arith}
 use lib.Dec.{lit≤}
@@ -15,7 +15,7 @@ use Rattle.registers.specs.Block.{blockOf}
 use Rattle.registers.specs.Modes.{risen, recessive}
 use Rattle.registers.proofs.Laws.{byte-stays, block-back}
 use Rattle.mailboxes.specs.Mailbox.{mailbox}
-use Rattle.mailboxes.specs.Filing.{stamped}
+use Rattle.mailboxes.specs.Filing as Filing
 use Rattle.mailboxes.proofs.Laws.{word-of}
 use Rattle.events.specs.declared.Event.{Event}
 use Rattle.events.specs.declared.Event.the-variants.{Register, Mailbox, Heard, Start as Started, Outcome as Concluded, ReceiveError as Worse, Recessive as Eleven, Tick as Ticks, Mode as Asks, Options as Opts, Reset as Resets}
@@ -27,18 +27,18 @@ use Rattle.refusals.specs.Refusal.{refusal, remaining}
 use Rattle.answers.specs.Answer.{Outcome as Result}
 use Rattle.model.specs.Step.{own, goes, delivered, acted, blockAfter, postmarked, rewritten, mailboxesAfter, named, accepted}
 use Rattle.model.proofs.Kept.{Taken as TakenEvent, taken, boxes-after, block-after, accepted-good}
-use Rattle.rules.specs.Words.{Words, words, Only, BoxesStayBut}
+use Rattle.rules.specs.Words.{Words, words, Only, BoxesStayBut, atMost, OPTIONS}
 use Rattle.rules.specs.Events.{operation, target, part, value}
 use Rattle.rules.specs.Writing.{Write, BoxWrite}
 use Rattle.rules.specs.Receiving.{Frame}
-use Rattle.rules.specs.Sending.{Answers, Start, Sent, Unsent, worse, ReceiveError, Recessive, Tick, Mode, Options, Ending, Stamped}
+use Rattle.rules.specs.Sending.{Answers, Start, Sent, Unsent, ReceiveError, Recessive, Tick, Mode, Ending}
 use Rattle.rules.specs.Fresh.{FreshWords}
-use Rattle.rules.specs.Step.{Quiet, Does, Accepted}
+use Rattle.rules.specs.Step.{stamped, Quiet, Does, Accepted}
 use Rattle.rules.proofs.Blocks.{ofBlock, of-block}
 use Rattle.rules.proofs.Sending.{tick, recessive-bits, receive-error, mode-asked, options-taken, reset, sending, losing, erring, ending}
 use Rattle.rules.proofs.Starting.{start}
 use Rattle.rules.proofs.Writing.{write-step}
-use Rattle.rules.proofs.Boxes.{box-write, taken as word-taken, others as words-other, elsewhere as bytes-elsewhere}
+use Rattle.rules.proofs.Boxes.{box-write}
 use Rattle.rules.proofs.Receiving.{frame}
 use Rattle.model.proofs.Meets.{calm}
 
@@ -79,21 +79,15 @@ module _ (s : List ℕ) where
   unfolding own goes delivered mailboxesAfter accepted named
   does-tick k = (tick b (k .good .block .core .ranges .tsc), ((refl, refl), stay Ticks refl))
 
-  stamps : GoodImage s → Stamped (b .slot) s (accepted s (Concluded 0) .image)
-  unfolding accepted mailboxesAfter postmarked stamped blockOf wordsOf
+  stamps : GoodImage s → BoxWrite (b .slot) 1 (stamped s (b .slot)) s (accepted s (Concluded 0) .image)
+  unfolding accepted mailboxesAfter postmarked Filing.stamped blockOf wordsOf
   stamps g =
       let n = b .slot in
       let r = g .block .core .ranges in
-      let l : n < 32 = omega (arith, r .slot) in
-      let x = blockAfter s (Concluded 0) in
       let v = b .tsc * 2 ^ 16 + wordAt (mailbox s n) 4 % 2 ^ 16 in
-      record {
-        stamp =
-            word-taken s g n l x 1 v (lit≤ tt) (omega (arith, r .tsc))
-            ∙ ap (λ (w : ℕ). b .tsc * 2 ^ 16 + w % 2 ^ 16) (word-of s n 4 (lit≤ tt));
-        others = words-other s g n l x 1 v (lit≤ tt);
-        elsewhere = bytes-elsewhere s g n l x 1 v (lit≤ tt);
-      }
+      let e : v ≡ stamped s n = ap (λ (w : ℕ). b .tsc * 2 ^ 16 + w % 2 ^ 16) (word-of s n 4 (lit≤ tt)) in
+      subst (λ (w : ℕ). BoxWrite n 1 w s (accepted s (Concluded 0) .image)) e
+      (box-write s g n (omega (arith, r .slot)) (blockAfter s (Concluded 0)) 1 v (lit≤ tt) (omega (arith, r .tsc)))
 
   -- an outcome, by its number
   of-kind : (j k : ℕ) (P : Event → Type 0) → (TakenEvent s (Concluded k) → P (Concluded k)) → TakenEvent s (Concluded j) → j ≡ k → P (Concluded j)
@@ -101,7 +95,7 @@ module _ (s : List ℕ) where
       let same : Concluded j ≡ Concluded k = ap Concluded e in
       subst P (sym same) (h (subst (TakenEvent s) same t))
 
-  does-sent : TakenEvent s (Concluded 0) → Sent (ofBlock b) (mid (Concluded 0)) × Stamped (b .slot) s (accepted s (Concluded 0) .image) × Answers (b .slot) 0 (accepted s (Concluded 0))
+  does-sent : TakenEvent s (Concluded 0) → Sent (ofBlock b) (mid (Concluded 0)) × BoxWrite (b .slot) 1 (stamped s (b .slot)) s (accepted s (Concluded 0) .image) × Answers (b .slot) 0 (accepted s (Concluded 0))
   unfolding own goes delivered accepted named
   does-sent k = (sending b (full 0 k) (k .good .block .core .ranges .tec), stamps (k .good), (refl, refl))
 
@@ -109,7 +103,7 @@ module _ (s : List ℕ) where
   unfolding own goes delivered accepted named mailboxesAfter
   does-lost k = (losing b (full 1 k) (k .good .block .core .ranges .tec), stay (Concluded 1) refl, (refl, refl))
 
-  does-fail : TakenEvent s (Concluded 2) → Unsent (worse (b .tec)) (ofBlock b) (mid (Concluded 2)) × BoxesStayBut 32 s (accepted s (Concluded 2) .image) × Answers (b .slot) 0 (accepted s (Concluded 2))
+  does-fail : TakenEvent s (Concluded 2) → Unsent (atMost 256 (b .tec + 8)) (ofBlock b) (mid (Concluded 2)) × BoxesStayBut 32 s (accepted s (Concluded 2) .image) × Answers (b .slot) 0 (accepted s (Concluded 2))
   unfolding own goes delivered accepted named mailboxesAfter
   does-fail k = (erring b (full 2 k) (k .good .block .core .ranges .tec), stay (Concluded 2) refl, (refl, refl))
 
@@ -125,9 +119,9 @@ module _ (s : List ℕ) where
   unfolding own goes delivered mailboxesAfter accepted named
   does-mode v k = (mode-asked b v, ((refl, refl), stay (Asks v) refl))
 
-  does-options : (v : ℕ) → TakenEvent s (Opts v) → Options v (ofBlock b) (mid (Opts v)) × Quiet s (accepted s (Opts v))
+  does-options : (v : ℕ) → TakenEvent s (Opts v) → (mid (Opts v) OPTIONS ≡ v) × Only (OPTIONS ∷ []) (ofBlock b) (mid (Opts v)) × Quiet s (accepted s (Opts v))
   unfolding own goes delivered mailboxesAfter accepted named
-  does-options v k = (options-taken b v, ((refl, refl), stay (Opts v) refl))
+  does-options v k = let o = options-taken b v in (o .0, o .1, ((refl, refl), stay (Opts v) refl))
 
   does-reset : TakenEvent s Resets → FreshWords (mid Resets) × Quiet s (accepted s Resets)
   unfolding own goes delivered mailboxesAfter accepted named
@@ -162,19 +156,19 @@ module _ (s e : List ℕ) (bytes : Bytes s) (small-bytes : Bytes e) (g : goodIma
         frame = of 2 (λ v. Frame s e (ofBlock (blockOf s)) (mid s v) (accepted s v)) (does-frame s e small-bytes);
         start = of 3 (λ v. Start s (ofBlock (blockOf s)) (mid s v) (accepted s v .mailbox) × (accepted s v .count ≡ 0) × BoxesStayBut 32 s (accepted s v .image)) (does-start s);
         sent =
-            of 4 (λ v. target e ≡ 0 → Sent (ofBlock (blockOf s)) (mid s v) × Stamped (blockOf s .slot) s (accepted s v .image) × Answers (blockOf s .slot) 0 (accepted s v))
-            (of-kind s (target e) 0 (λ v. Sent (ofBlock (blockOf s)) (mid s v) × Stamped (blockOf s .slot) s (accepted s v .image) × Answers (blockOf s .slot) 0 (accepted s v)) (does-sent s));
+            of 4 (λ v. target e ≡ 0 → Sent (ofBlock (blockOf s)) (mid s v) × BoxWrite (blockOf s .slot) 1 (stamped s (blockOf s .slot)) s (accepted s v .image) × Answers (blockOf s .slot) 0 (accepted s v))
+            (of-kind s (target e) 0 (λ v. Sent (ofBlock (blockOf s)) (mid s v) × BoxWrite (blockOf s .slot) 1 (stamped s (blockOf s .slot)) s (accepted s v .image) × Answers (blockOf s .slot) 0 (accepted s v)) (does-sent s));
         lost =
             of 4 (λ v. target e ≡ 1 → Unsent (blockOf s .tec) (ofBlock (blockOf s)) (mid s v) × BoxesStayBut 32 s (accepted s v .image) × Answers (blockOf s .slot) 0 (accepted s v))
             (of-kind s (target e) 1 (λ v. Unsent (blockOf s .tec) (ofBlock (blockOf s)) (mid s v) × BoxesStayBut 32 s (accepted s v .image) × Answers (blockOf s .slot) 0 (accepted s v)) (does-lost s));
         error =
-            of 4 (λ v. target e ≡ 2 → Unsent (worse (blockOf s .tec)) (ofBlock (blockOf s)) (mid s v) × BoxesStayBut 32 s (accepted s v .image) × Answers (blockOf s .slot) 0 (accepted s v))
-            (of-kind s (target e) 2 (λ v. Unsent (worse (blockOf s .tec)) (ofBlock (blockOf s)) (mid s v) × BoxesStayBut 32 s (accepted s v .image) × Answers (blockOf s .slot) 0 (accepted s v)) (does-fail s));
+            of 4 (λ v. target e ≡ 2 → Unsent (atMost 256 (blockOf s .tec + 8)) (ofBlock (blockOf s)) (mid s v) × BoxesStayBut 32 s (accepted s v .image) × Answers (blockOf s .slot) 0 (accepted s v))
+            (of-kind s (target e) 2 (λ v. Unsent (atMost 256 (blockOf s .tec + 8)) (ofBlock (blockOf s)) (mid s v) × BoxesStayBut 32 s (accepted s v .image) × Answers (blockOf s .slot) 0 (accepted s v)) (does-fail s));
         receive-error = of 5 (λ v. ReceiveError (value e) (ofBlock (blockOf s)) (mid s v) × Quiet s (accepted s v)) (does-error s (value e));
         recessive = of 6 (λ v. Recessive (ofBlock (blockOf s)) (mid s v) × Quiet s (accepted s v)) (does-recessive s);
         tick = of 7 (λ v. Tick (ofBlock (blockOf s)) (mid s v) × Quiet s (accepted s v)) (does-tick s);
         mode = of 8 (λ v. Mode (value e) (ofBlock (blockOf s)) (mid s v) × Quiet s (accepted s v)) (does-mode s (value e));
-        options = of 9 (λ v. Options (value e) (ofBlock (blockOf s)) (mid s v) × Quiet s (accepted s v)) (does-options s (value e));
+        options = of 9 (λ v. (mid s v OPTIONS ≡ value e) × Only (OPTIONS ∷ []) (ofBlock (blockOf s)) (mid s v) × Quiet s (accepted s v)) (does-options s (value e));
         reset = of 10 (λ v. FreshWords (mid s v) × Quiet s (accepted s v)) (does-reset s);
       }
 
@@ -195,6 +189,5 @@ module _ (s e : List ℕ) (bytes : Bytes s) (small-bytes : Bytes e) (g : goodIma
         does = subst (λ (w : Words). Does s e w (mid s (event e)) o) (sym (of-block s (t .good))) does;
         ending = subst (λ (w : Words). Ending (mid s (event e)) w) (sym left) (ending (risen (blockOf s) (acted s (event e))));
         refusal = refl;
-        size = accepted-good s (event e) t .size;
-        bytes = accepted-good s (event e) t .bytes .small;
+        size = let g = accepted-good s (event e) t in (g .size, g .bytes .small);
       }

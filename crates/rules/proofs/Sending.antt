@@ -21,8 +21,8 @@ use Rattle.registers.specs.Writes.{slotMask}
 use Rattle.registers.specs.Sending.{sent, failed, aborting}
 use Rattle.registers.proofs.Flags.{slot-bit, sent-trs, sent-ta, sent-trr, sent-mbtif, aborting-bit, failed-trs, failed-aa, failed-trr, failed-gif, entered-gif, risen-gif, ticked-gif}
 use Rattle.model.proofs.Meets.{calm}
-use Rattle.rules.specs.Words.{_is_, atMost, MD, TRS, TRR, TA, AA, MBTIF, GIF, TSC, TEC, REC, MODE, WAITING, SLOT, RECOVERY, OPTIONS, TSO}
-use Rattle.rules.specs.Sending.{Gif, nothing, Tick, Recessive, Sent, Unsent, ReceiveError, Mode, Options, Ending}
+use Rattle.rules.specs.Words.{_is_, atMost, Only, MD, TRS, TRR, TA, AA, MBTIF, GIF, TSC, TEC, REC, MODE, WAITING, SLOT, RECOVERY, OPTIONS, TSO}
+use Rattle.rules.specs.Sending.{Gif, nothing, Tick, Recessive, Sent, Unsent, ReceiveError, Mode, Ending}
 use Rattle.rules.specs.Fresh.{FreshWords}
 use Rattle.rules.proofs.Blocks.{ofBlock, only, still}
 
@@ -121,13 +121,12 @@ module _ (b : Block) where
         rest = λ k z. ap (λ (x : Block). ofBlock x k) e ∙ only (WAITING ∷ []) b (asked b m) refl k z;
       }
 
-  pub options-taken : (v : ℕ) → Options v (ofBlock b) (ofBlock (risen b (optioned b v)))
+  pub options-taken : (v : ℕ) → (risen b (optioned b v) .options ≡ v) × Only (OPTIONS ∷ []) (ofBlock b) (ofBlock (risen b (optioned b v)))
   options-taken v =
-      let e = calm b (optioned b v) refl (omega arith) in
-      record {
-        takes = ap (λ (x : Block). x .options) e;
-        rest = λ k z. ap (λ (x : Block). ofBlock x k) e ∙ only (OPTIONS ∷ []) b (optioned b v) refl k z;
-      }
+      let e = calm b (optioned b v) refl (omega arith) in (
+        ap (λ (x : Block). x .options) e,
+        λ k z. ap (λ (x : Block). ofBlock x k) e ∙ only (OPTIONS ∷ []) b (optioned b v) refl k z,
+      )
 
   pub reset : FreshWords (ofBlock (risen b freshBlock))
   unfolding risen freshBlock
@@ -214,14 +213,12 @@ ending b = at (ready b) refl
           asleep = λ z. absurd (false≢true (sym e ∙ z));
           awake = λ z. absurd (false≢true (sym e ∙ z));
           wakes = λ z. absurd (false≢true (sym e ∙ z));
-          rest = λ z. absurd (false≢true (sym e ∙ z));
         }
     at true e =
         record {
           none = λ z. absurd (false≢true (sym z ∙ e));
           mode = λ z. (refl, refl);
-          asleep = λ z q. let f = eq-eqb (b .waiting) 2 q in (rw f, rw f, rw f, rw f);
+          asleep = λ z q. let f = eq-eqb (b .waiting) 2 q in (rw f, rw f, rw f, rw f, only (MODE ∷ WAITING ∷ GIF ∷ TEC ∷ REC ∷ TRS ∷ TRR ∷ []) b (entered b) refl);
           awake = λ z q. only (MODE ∷ WAITING ∷ GIF ∷ []) b (entered b) (rw (ne-eqb (b .waiting) 2 q));
           wakes = λ z n. entered-gif b n;
-          rest = λ z. only (MODE ∷ WAITING ∷ GIF ∷ TEC ∷ REC ∷ TRS ∷ TRR ∷ []) b (entered b) refl;
         }

@@ -18,11 +18,11 @@ use Rattle.sending.proofs.Choice.{eligible-bit, next-off, next-is, next-most}
 use Rattle.model.specs.Step.{startedWith}
 use Rattle.model.proofs.Meets.{calm}
 use Rattle.rules.specs.Words.{_has_, box, Only, SLOT}
-use Rattle.rules.specs.Sending.{candidate, one, key, Start}
+use Rattle.rules.specs.Sending.{candidate, key, Start}
 use Rattle.rules.proofs.Blocks.{ofBlock, only}
 
 keys : (w : ℕ) (t u : Bool)
-    → w / 2 ^ 18 % 2 ^ 11 * 2 ^ 21 + one (t || u) * 2 ^ 20 + one t * 2 ^ 19 + cond t (w % 2 ^ 18 * 2 + one u) 0
+    → w / 2 ^ 18 % 2 ^ 11 * 2 ^ 21 + cond (t || u) (2 ^ 20) 0 + cond t (2 ^ 19) 0 + cond t (w % 2 ^ 18 * 2 + cond u 1 0) 0
     ≡ w % 2 ^ 29 / 2 ^ 18 % 2 ^ 11 * 2 ^ 21 + flag (t || u) 20 + flag t 19 + cond t (w % 2 ^ 29 % 2 ^ 18 * 2 + flag u 0) 0
 keys w true true = omega arith
 keys w true false = omega arith

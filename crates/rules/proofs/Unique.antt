@@ -10,9 +10,9 @@ use borrow.Author.Tests.{ne-eqb}
 use Rattle.bits.specs.Below.{allBelow}
 use Rattle.bits.proofs.Laws.{same-bits}
 use Rattle.bits.proofs.Below.{each-below}
-use Rattle.rules.specs.Words.{Words, _has_, _is_, among, Only, MC, LAM, GAM, CDR, MBIM, GIM, BCR1, BCR2, MBRIF, RMP, RML, RFP, MD, TRS, TRR, TA, AA, MBTIF, GIF, TSC, TEC, REC, MODE, WAITING, SLOT, RECOVERY, OPTIONS, TSO}
+use Rattle.rules.specs.Words.{Words, _has_, _is_, among, Only, MC, LAM, GAM, CDR, MBIM, GIM, BCR1, BCR2, MBRIF, RMP, RML, RFP, MD, TRS, TRR, TA, AA, MBTIF, GIF, TSC, TEC, REC, MODE, WAITING, SLOT, RECOVERY, TSO}
 use Rattle.rules.specs.Writing.{Write}
-use Rattle.rules.specs.Sending.{busOff, Gif, nothing, Tick, Recessive, Sent, Unsent, ReceiveError, Mode, Options, Ending, taken, onBus}
+use Rattle.rules.specs.Sending.{busOff, Gif, nothing, Tick, Recessive, Sent, Unsent, ReceiveError, Mode, Ending, taken, onBus}
 use Rattle.rules.specs.Fresh.{FreshWords}
 use Rattle.rules.proofs.Blocks.{All, among-all, every-word}
 
@@ -63,7 +63,7 @@ module _ (was a b : Words) where
       at true e (yes z) =
           let x = p .asleep e z in
           let y = q .asleep e z in
-          by-only (MODE ∷ WAITING ∷ GIF ∷ TEC ∷ REC ∷ TRS ∷ TRR ∷ []) (p .rest e) (q .rest e)
+          by-only (MODE ∷ WAITING ∷ GIF ∷ TEC ∷ REC ∷ TRS ∷ TRR ∷ []) (x .4) (y .4)
           (p .mode e .0 ∙ sym (q .mode e .0), (p .mode e .1 ∙ sym (q .mode e .1), (flags GIF _ (p .wakes e) (q .wakes e), (x .0 ∙ sym (y .0), (x .1 ∙ sym (y .1), (x .2 ∙ sym (y .2), (x .3 ∙ sym (y .3), tt)))))))
       at true e (no z) =
           by-only (MODE ∷ WAITING ∷ GIF ∷ []) (p .awake e z) (q .awake e z)
@@ -100,9 +100,6 @@ module _ (was a b : Words) where
       at : Dec (v ≡ was MODE) → Agree a b
       at (yes e) = by-only (WAITING ∷ []) (p .rest) (q .rest) (p .present e ∙ sym (q .present e), tt)
       at (no d) = by-only (WAITING ∷ []) (p .rest) (q .rest) (p .other d ∙ sym (q .other d), tt)
-
-  pub options-one : (v : ℕ) → Options v was a → Options v was b → Agree a b
-  options-one v p q = by-only (OPTIONS ∷ []) (p .rest) (q .rest) (p .takes ∙ sym (q .takes), tt)
 
   -- ---- writing
 

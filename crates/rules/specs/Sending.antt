@@ -7,7 +7,7 @@ use mathlib.Core.List.{List, [], _∷_}
 use mathlib.Core.Logic.{_≢_}
 use lib.Dec.{ltb}
 use Rattle.answers.specs.Answer.{Outcome}
-use Rattle.rules.specs.Words.{_has_, _is_, _has-bits_, Words, words, box, atMost, Only, BoxesStayBut, MC, TRS, TRR, TA, AA, CDR, MBTIF, MBIM, GIF, TSC, TEC, REC, MODE, WAITING, SLOT, RECOVERY, OPTIONS, TSO}
+use Rattle.rules.specs.Words.{_has_, _is_, _has-bits_, Words, box, atMost, Only, MC, TRS, TRR, TA, AA, CDR, MBTIF, MBIM, GIF, TSC, TEC, REC, MODE, WAITING, SLOT, RECOVERY, OPTIONS, TSO}
 
 -- What a call answers: a mailbox and a count.
 abbrev pub Answers : ℕ → ℕ → Outcome → Type 0
@@ -46,14 +46,11 @@ candidate was n = was TRS has n && was MC has n && not (was CDR has n) && not (w
 
 -- The arbitration key of mailbox n: its base identifier, then a bit that is RTR in a standard frame and 1 in an extended one, then IDE,
 -- then of an extended frame the low 18 bits and RTR.
-abbrev pub one : Bool → ℕ
-one t = cond t 1 0
-
 abbrev pub key : List ℕ → ℕ → ℕ
 key s n =
     let ide = box s n 0 has 31 in
     let rtr = box s n 1 has 4 in
-    box s n 0 / 2 ^ 18 % 2 ^ 11 * 2 ^ 21 + one (ide || rtr) * 2 ^ 20 + one ide * 2 ^ 19 + cond ide (box s n 0 % 2 ^ 18 * 2 + one rtr) 0
+    box s n 0 / 2 ^ 18 % 2 ^ 11 * 2 ^ 21 + cond (ide || rtr) (2 ^ 20) 0 + cond ide (2 ^ 19) 0 + cond ide (box s n 0 % 2 ^ 18 * 2 + cond rtr 1 0) 0
 
 -- A start names the mailbox that goes into the slot: on the bus the lowest candidate, or with MTOS (option bit 0) the one with the smallest
 -- key, the lower of two equal ones. With no candidate, and off the bus, it names 32 and nothing changes.
@@ -79,12 +76,6 @@ pub record Sent (was now : Words) : Type 0 where
   pub gif : Gif nothing was now
   pub rest : Only (SLOT ∷ TRS ∷ TRR ∷ TA ∷ MBTIF ∷ TEC ∷ GIF ∷ []) was now
 
--- Sent, the mailbox: its time stamp (word 1, bits 31 to 16) becomes TSC.
-pub record Stamped (n : ℕ) (s x : List ℕ) : Type 0 where
-  pub stamp : box x n 1 ≡ words s TSC * 65536 + box s n 1 % 65536
-  pub others : (j : ℕ) → j < 4 → j ≢ 1 → box x n j ≡ box s n j
-  pub elsewhere : BoxesStayBut n s x
-
 -- Not sent: the slot is empty. A request that was cancelled meanwhile is over, which AA and bit 4 of GIF tell; another one stays. TEC
 -- becomes t.
 pub record Unsent (t : ℕ) (was now : Words) : Type 0 where
@@ -95,10 +86,6 @@ pub record Unsent (t : ℕ) (was now : Words) : Type 0 where
   pub tec : now TEC ≡ t
   pub gif : Gif (λ n. was TRR has was SLOT && n is 4) was now
   pub rest : Only (SLOT ∷ TRS ∷ TRR ∷ AA ∷ TEC ∷ GIF ∷ []) was now
-
--- An error of the sender adds 8 to TEC, which stops at 256.
-abbrev pub worse : ℕ → ℕ
-worse tec = atMost 256 (tec + 8)
 
 -- A receive error, on the bus, adds to REC, which stops at 255.
 pub record ReceiveError (more : ℕ) (was now : Words) : Type 0 where
@@ -127,11 +114,6 @@ pub record Mode (asked : ℕ) (was now : Words) : Type 0 where
   pub other : asked ≢ was MODE → now WAITING ≡ asked
   pub rest : Only (WAITING ∷ []) was now
 
--- The events: options take the value.
-pub record Options (value : ℕ) (was now : Words) : Type 0 where
-  pub takes : now OPTIONS ≡ value
-  pub rest : Only (OPTIONS ∷ []) was now
-
 -- At the end of a step: is a mode waiting, and may it be taken? With an empty slot, and not in bus off.
 abbrev pub taken : Words → Bool
 taken w = not (w WAITING is 4) && (w SLOT is 31 && ltb (w TEC) 256)
@@ -141,7 +123,7 @@ taken w = not (w WAITING is 4) && (w SLOT is 31 && ltb (w TEC) 256)
 pub record Ending (was now : Words) : Type 0 where
   pub none : taken was ≡ false → Only [] was now
   pub mode : taken was ≡ true → (now MODE ≡ was WAITING) × (now WAITING ≡ 4)
-  pub asleep : taken was ≡ true → was WAITING ≡ 2 → (now TEC ≡ 0) × (now REC ≡ 0) × (now TRS ≡ 0) × (now TRR ≡ 0)
+  pub asleep : taken was ≡ true → was WAITING ≡ 2
+      → (now TEC ≡ 0) × (now REC ≡ 0) × (now TRS ≡ 0) × (now TRR ≡ 0) × Only (MODE ∷ WAITING ∷ GIF ∷ TEC ∷ REC ∷ TRS ∷ TRR ∷ []) was now
   pub awake : taken was ≡ true → was WAITING ≢ 2 → Only (MODE ∷ WAITING ∷ GIF ∷ []) was now
   pub wakes : taken was ≡ true → now GIF has-bits (λ n. was GIF has n || was MODE is 2 && was WAITING is 0 && n is 6)
-  pub rest : taken was ≡ true → Only (MODE ∷ WAITING ∷ GIF ∷ TEC ∷ REC ∷ TRS ∷ TRR ∷ []) was now

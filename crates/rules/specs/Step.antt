@@ -1,36 +1,40 @@
 -- The rulebook together: what one event leaves, and what a call answers.
-use Prim.Native.Nat.{ℕ, _<_}
+use Prim.Native.Nat.{ℕ, _+_, _*_, _%_, _<_}
 use mathlib.Core.Path.{_≡_}
-use mathlib.Core.List.{List, []}
+use mathlib.Core.List.{List, [], _∷_}
 use mathlib.Core.Logic.{_≢_}
 use lib.ListN.{length}
 use Rattle.answers.specs.Answer.{Outcome}
-use Rattle.rules.specs.Words.{Words, words, byte, Only, BoxesStayBut, TEC, SLOT}
+use Rattle.rules.specs.Words.{Words, words, byte, box, atMost, Only, BoxesStayBut, TSC, TEC, SLOT, OPTIONS}
 use Rattle.rules.specs.Image.{Good}
 use Rattle.rules.specs.Events.{operation, target, part, value, refusalOf}
 use Rattle.rules.specs.Writing.{Write, BoxWrite}
 use Rattle.rules.specs.Receiving.{Frame}
-use Rattle.rules.specs.Sending.{Answers, Start, Sent, Stamped, Unsent, worse, ReceiveError, Recessive, Tick, Mode, Options, Ending}
+use Rattle.rules.specs.Sending.{Answers, Start, Sent, Unsent, ReceiveError, Recessive, Tick, Mode, Ending}
 use Rattle.rules.specs.Fresh.{FreshWords}
 
 -- The events: an accepted one answers mailbox 32 and count 0 where nothing else is said. Here no mailbox byte changes either.
 abbrev pub Quiet : List ℕ → Outcome → Type 0
 Quiet s o = Answers 32 0 o × BoxesStayBut 32 s (o .image)
 
--- What each operation itself does: `was` are the register words before, `now` those before a waiting mode is taken.
+-- Sending: word 1 of a mailbox that was sent, with TSC as its time stamp (bits 31 to 16).
+abbrev pub stamped : List ℕ → ℕ → ℕ
+stamped s n = words s TSC * 65536 + box s n 1 % 65536
+
+-- What each operation itself does, an error of the sender adding 8 to TEC, which stops at 256: `was` are the register words before, `now` those before a waiting mode is taken.
 pub record Does (s e : List ℕ) (was now : Words) (o : Outcome) : Type 0 where
   pub register : operation e ≡ 0 → Write (target e) (value e) was now × Quiet s o
   pub mailbox : operation e ≡ 1 → BoxWrite (target e) (part e) (value e) s (o .image) × Only [] was now × Answers 32 0 o
   pub frame : operation e ≡ 2 → Frame s e was now o
   pub start : operation e ≡ 3 → Start s was now (o .mailbox) × (o .count ≡ 0) × BoxesStayBut 32 s (o .image)
-  pub sent : operation e ≡ 4 → target e ≡ 0 → Sent was now × Stamped (was SLOT) s (o .image) × Answers (was SLOT) 0 o
+  pub sent : operation e ≡ 4 → target e ≡ 0 → Sent was now × BoxWrite (was SLOT) 1 (stamped s (was SLOT)) s (o .image) × Answers (was SLOT) 0 o
   pub lost : operation e ≡ 4 → target e ≡ 1 → Unsent (was TEC) was now × BoxesStayBut 32 s (o .image) × Answers (was SLOT) 0 o
-  pub error : operation e ≡ 4 → target e ≡ 2 → Unsent (worse (was TEC)) was now × BoxesStayBut 32 s (o .image) × Answers (was SLOT) 0 o
+  pub error : operation e ≡ 4 → target e ≡ 2 → Unsent (atMost 256 (was TEC + 8)) was now × BoxesStayBut 32 s (o .image) × Answers (was SLOT) 0 o
   pub receive-error : operation e ≡ 5 → ReceiveError (value e) was now × Quiet s o
   pub recessive : operation e ≡ 6 → Recessive was now × Quiet s o
   pub tick : operation e ≡ 7 → Tick was now × Quiet s o
   pub mode : operation e ≡ 8 → Mode (value e) was now × Quiet s o
-  pub options : operation e ≡ 9 → Options (value e) was now × Quiet s o
+  pub options : operation e ≡ 9 → (now OPTIONS ≡ value e) × Only (OPTIONS ∷ []) was now × Quiet s o
   pub reset : operation e ≡ 10 → FreshWords now × Quiet s o
 
 -- An accepted event: what it does itself, then a waiting mode; what is left is 640 bytes again.
@@ -39,8 +43,7 @@ pub record Accepted (s e : List ℕ) (o : Outcome) : Type 0 where
   pub does : Does s e (words s) middle o
   pub ending : Ending middle (words (o .image))
   pub refusal : o .refusal ≡ 0
-  pub size : length (o .image) ≡ 640
-  pub bytes : (i : ℕ) → byte (o .image) i < 256
+  pub size : (length (o .image) ≡ 640) × ((i : ℕ) → byte (o .image) i < 256)
 
 -- The refusals: each answers its number, mailbox 32 and count 0, and the image is as it came.
 abbrev pub Refused : List ℕ → ℕ → Outcome → Type 0
