@@ -26,10 +26,10 @@ use Rattle.model.specs.Step.{own, goes, delivered, blockAfter, stowed, mailboxe
 -- What the model gives, beside the number that document 01 marks.
 pub record Row : Type 0 where
   pub gives : ℕ
-  pub marked : ℕ
+  pub says : ℕ
 
 abbrev pub row : ℕ → ℕ → Row
-row g m = record { gives = g; marked = m }
+row g m = record { gives = g; says = m }
 
 -- The standard identifier 0x123 stands in bits 28 to 18.
 abbrev pub identifier123 : Identifier
@@ -74,7 +74,7 @@ table =
 
 unfoldable pub agrees : List Row → Bool
 agrees [] = true
-agrees (r ∷ l) = eqb (r .gives) (r .marked) && agrees l
+agrees (r ∷ l) = eqb (r .gives) (r .says) && agrees l
 
 -- Marked numbers: every row agrees.
 pub marked : agrees table ≡ true

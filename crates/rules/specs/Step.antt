@@ -21,7 +21,8 @@ Quiet s o = Answers 32 0 o × BoxesStayBut 32 s (o .image)
 abbrev pub stamped : List ℕ → ℕ → ℕ
 stamped s n = words s TSC * 65536 + box s n 1 % 65536
 
--- What each operation itself does, an error of the sender adding 8 to TEC, which stops at 256: `was` are the register words before, `now` those before a waiting mode is taken.
+-- What each operation itself does: `was` are the register words before, `now` those before a waiting mode is taken. Of the three outcomes
+-- an error adds 8 to TEC, which stops at 256.
 pub record Does (s e : List ℕ) (was now : Words) (o : Outcome) : Type 0 where
   pub register : operation e ≡ 0 → Write (target e) (value e) was now × Quiet s o
   pub mailbox : operation e ≡ 1 → BoxWrite (target e) (part e) (value e) s (o .image) × Only [] was now × Answers 32 0 o
