@@ -1,0 +1,248 @@
+#define _XOPEN_SOURCE 700 /* isatty, fileno, mkstemp, realpath and fstat beside C99 */
+
+#include "command.h"
+
+#include <errno.h>
+#include <stdarg.h>
+#include <stdio.h>
+#include <stdlib.h>
+#include <string.h>
+#include <sys/stat.h>
+#include <unistd.h>
+
+/* ---- messages */
+
+static void complain_with(const char *format, va_list words)
+{
+    fflush(stdout);
+    fputs("frostsorrel: ", stderr);
+    vfprintf(stderr, format, words);
+}
+
+void complain(const char *format, ...)
+{
+    va_list words;
+
+    va_start(words, format);
+    complain_with(format, words);
+    va_end(words);
+    fputc('\n', stderr);
+}
+
+int misused(const char *subcommand, const char *format, ...)
+{
+    va_list words;
+
+    va_start(words, format);
+    complain_with(format, words);
+    va_end(words);
+    fprintf(stderr, "; see frostsorrel %s%s--help\n", subcommand, *subcommand ? " " : "");
+    return COMMAND_FAILED;
+}
+
+int asks_help(int argc, char **argv)
+{
+    for (int i = 1; i < argc; i++)
+        if (strcmp(argv[i], "--help") == 0)
+            return 1;
+    return 0;
+}
+
+int show_help(const char *help)
+{
+    struct text t = {0};
+    int status;
+
+    text_bytes(&t, help, strlen(help));
+    status = text_show(&t, 0);
+    text_free(&t);
+    return status;
+}
+
+/* ---- reading */
+
+static int is_standard(const char *path)
+{
+    return !path || strcmp(path, "-") == 0;
+}
+
+const char *name_of_input(const char *path)
+{
+    return is_standard(path) ? "standard input" : path;
+}
+
+static void *grown(void *memory, size_t room)
+{
+    void *more = realloc(memory, room);
+
+    if (!more) {
+        complain("no memory left");
+        exit(COMMAND_FAILED); /* nothing is written before all of it is there */
+    }
+    return more;
+}
+
+static int read_open(FILE *file, const char *path, size_t limit, struct bytes *into)
+{
+    size_t room = 0, got;
+
+    into->at = 0;
+    into->length = 0;
+    do {
+        if (into->length == room)
+            into->at = grown(into->at, room = room ? 2 * room : 65536);
+        got = room - into->length < limit + 1 - into->length ? room - into->length : limit + 1 - into->length;
+        got = fread(into->at + into->length, 1, got, file);
+        into->length += got;
+    } while (got > 0 && into->length <= limit);
+    if (!ferror(file))
+        return COMMAND_DONE;
+    complain("%s: %s", name_of_input(path), strerror(errno));
+    free(into->at);
+    return COMMAND_FAILED;
+}
+
+int read_whole(const char *path, size_t limit, struct bytes *into)
+{
+    FILE *file = is_standard(path) ? stdin : fopen(path, "rb");
+    int status;
+
+    if (!file) {
+        complain("%s: %s", path, strerror(errno));
+        return COMMAND_FAILED;
+    }
+    status = read_open(file, path, limit, into);
+    if (file != stdin)
+        fclose(file);
+    return status;
+}
+
+/* ---- writing */
+
+static void make_room(struct text *t, size_t more)
+{
+    while (t->room - t->length <= more)
+        t->at = grown(t->at, t->room = t->room ? 2 * t->room : 4096);
+}
+
+void text_bytes(struct text *t, const void *bytes, size_t count)
+{
+    make_room(t, count);
+    memcpy(t->at + t->length, bytes, count);
+    t->length += count;
+    t->at[t->length] = 0;
+}
+
+void text_add(struct text *t, const char *format, ...)
+{
+    va_list words, again;
+    int length;
+
+    va_start(words, format);
+    va_copy(again, words);
+    length = vsnprintf(0, 0, format, words);
+    va_end(words);
+    make_room(t, (size_t)length);
+    t->length += (size_t)vsnprintf(t->at + t->length, t->room - t->length, format, again);
+    va_end(again);
+}
+
+void text_free(struct text *t)
+{
+    free(t->at);
+    memset(t, 0, sizeof *t);
+}
+
+/* Writes and flushes; a full disk may show in any of the two. */
+static int put_all(const struct text *t, FILE *file)
+{
+    size_t put = t->length ? fwrite(t->at, 1, t->length, file) : 0;
+
+    return put == t->length && fflush(file) == 0;
+}
+
+static int failed_at(const char *path)
+{
+    complain("%s: %s", path, strerror(errno));
+    return COMMAND_FAILED;
+}
+
+/* A device or a pipe is written as it is: there is no place beside it, and nothing to put in its place. */
+static int write_device(const struct text *t, const char *path)
+{
+    FILE *file = fopen(path, "wb");
+    int written, closed;
+
+    if (!file)
+        return failed_at(path);
+    written = put_all(t, file);
+    closed = fclose(file) == 0;
+    return written && closed ? COMMAND_DONE : failed_at(path);
+}
+
+/* The permissions that a new file would have got. */
+static mode_t usual_mode(void)
+{
+    mode_t mask = umask(0);
+
+    umask(mask);
+    return 0666 & ~mask;
+}
+
+/* Writes the file beside its place, under a name that nobody has, and then puts it there. */
+static int write_beside(const struct text *t, const char *path, mode_t mode)
+{
+    struct text beside = {0};
+    int number, written = 0, closed = 0, error;
+    FILE *file;
+
+    text_add(&beside, "%s.XXXXXX", path);
+    number = mkstemp(beside.at);
+    file = number < 0 ? 0 : fdopen(number, "wb");
+    if (file) {
+        written = put_all(t, file) && fchmod(number, mode) == 0;
+        error = errno;
+        closed = fclose(file) == 0;
+        if (!written)
+            errno = error;
+        written = written && closed && rename(beside.at, path) == 0;
+    }
+    error = errno;
+    if (number >= 0 && !written)
+        remove(beside.at);
+    errno = error;
+    text_free(&beside);
+    return written ? COMMAND_DONE : failed_at(path);
+}
+
+static int write_file(const struct text *t, const char *path)
+{
+    struct stat there;
+    char *real;
+    int status;
+
+    if (stat(path, &there) != 0)
+        return write_beside(t, path, usual_mode());
+    if (!S_ISREG(there.st_mode))
+        return write_device(t, path);
+    real = realpath(path, 0); /* a link stays a link */
+    if (!real)
+        return failed_at(path);
+    status = access(real, W_OK) == 0 ? write_beside(t, real, there.st_mode & 07777) : failed_at(path);
+    free(real);
+    return status;
+}
+
+int text_show(const struct text *t, const char *path)
+{
+    if (!is_standard(path))
+        return write_file(t, path);
+    return put_all(t, stdout) ? COMMAND_DONE : failed_at("standard output");
+}
+
+int wants_colour(void)
+{
+    const char *no = getenv("NO_COLOR");
+
+    return isatty(fileno(stdout)) && !(no && *no);
+}
