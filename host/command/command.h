@@ -22,7 +22,7 @@ int command_registers(int argc, char **argv);
 
 /* ---- messages */
 
-#define PRINTF_LIKE(format, words) __attribute__((format(printf, format, words)))
+#define PRINTF_LIKE(at, words) __attribute__((format(printf, at, words))) /* the compiler checks the words */
 
 /* One line on standard error, with the command's name before it. */
 PRINTF_LIKE(1, 2) void complain(const char *format, ...);
