@@ -24,9 +24,19 @@
 extern "C" {
 #endif
 
+#define FROSTSORREL_VERSION "0.1.0"
+#define FROSTSORREL_VERSION_MAJOR 0
+#define FROSTSORREL_VERSION_MINOR 1
+#define FROSTSORREL_VERSION_PATCH 0
+
 #define FROSTSORREL_IMAGE_BYTES 640
 #define FROSTSORREL_EVENT_BYTES 16
+#define FROSTSORREL_MAILBOXES 32
 #define FROSTSORREL_NO_MAILBOX 32
+
+#define FROSTSORREL_SECTION_EVENTS 1000 /* the most that a section of a trace has */
+#define FROSTSORREL_TRACE_BYTES 48006   /* the longest trace: three full sections */
+#define FROSTSORREL_LISTING_BYTES 39033 /* the longest listing: that of such a trace */
 
 /* The refusals. Where several apply, the lowest is given. */
 enum {
@@ -37,7 +47,8 @@ enum {
     FROSTSORREL_NOT_ALLOWED = 4, /* an unused byte is not 0, or the value is not allowed */
     FROSTSORREL_BUSY = 5,        /* something is being sent, or waits to be */
     FROSTSORREL_LOCKED = 6,      /* not in this mode, or not while the mailbox is enabled */
-    FROSTSORREL_SLOT_EMPTY = 7   /* an outcome, but nothing is being sent */
+    FROSTSORREL_SLOT_EMPTY = 7,  /* an outcome, but nothing is being sent */
+    FROSTSORREL_BAD_TRACE = 8    /* the file is no trace; no step answers it */
 };
 
 /* The operations of an event: its first byte. */
@@ -92,6 +103,63 @@ enum {
     FROSTSORREL_REC = 21,
     FROSTSORREL_GSR = 32
 };
+
+/* The words of the image behind the registers: nobody writes or reads them by number. */
+enum {
+    FROSTSORREL_WORD_MODE = 22,
+    FROSTSORREL_WORD_WAITING = 23,  /* the mode that waits, or FROSTSORREL_NO_MODE */
+    FROSTSORREL_WORD_SLOT = 24,     /* the mailbox that is being sent, or FROSTSORREL_EMPTY_SLOT */
+    FROSTSORREL_WORD_RECOVERY = 25, /* how often eleven recessive bits came in this bus off */
+    FROSTSORREL_WORD_OPTIONS = 26,
+    FROSTSORREL_WORD_TSO = 27
+};
+enum { FROSTSORREL_NO_MODE = 4, FROSTSORREL_EMPTY_SLOT = 31 };
+
+/* Word 0 of a mailbox. The value of a frame event has IDE and the identifier in the same places. */
+#define FROSTSORREL_IDE 0x80000000u             /* the identifier is an extended one */
+#define FROSTSORREL_GAME 0x40000000u            /* GAM (LAM in mailbox 31) frees identifier bits */
+#define FROSTSORREL_RFH 0x20000000u             /* a transmit mailbox replies to remote frames */
+#define FROSTSORREL_IDENTIFIER_BITS 0x1FFFFFFFu /* a standard identifier is in the upper 11 of these */
+#define FROSTSORREL_FRAME_RTR 0x40000000u       /* in the value of a frame event: a remote frame */
+
+/* Word 1 of a mailbox. Its time stamp is in bits 31 to 16. */
+#define FROSTSORREL_RTR 0x10u
+#define FROSTSORREL_DLC_BITS 0xFu
+
+/* The bits of GIF, by the manual's names. */
+enum {
+    FROSTSORREL_WLIF = 0x01,   /* warning began */
+    FROSTSORREL_EPIF = 0x02,   /* passive began */
+    FROSTSORREL_BOIF = 0x04,   /* bus off began */
+    FROSTSORREL_TSOIF = 0x08,  /* the time stamp counter went from 65,535 to 0 */
+    FROSTSORREL_TRMABF = 0x10, /* a request to send was aborted */
+    FROSTSORREL_RMLIF = 0x20,  /* a frame that nobody had released was overwritten */
+    FROSTSORREL_WUIF = 0x40,   /* the model woke */
+    FROSTSORREL_RFPF = 0x80    /* a remote frame was stored */
+};
+
+/* The bits of GSR, by the manual's names. */
+enum {
+    FROSTSORREL_GSR_EW = 0x001,   /* warning */
+    FROSTSORREL_GSR_EP = 0x002,   /* passive */
+    FROSTSORREL_GSR_BO = 0x004,   /* bus off */
+    FROSTSORREL_GSR_TSO = 0x008,  /* time stamp overflow */
+    FROSTSORREL_GSR_SMA = 0x040,  /* sleep */
+    FROSTSORREL_GSR_CCE = 0x080,  /* configuration */
+    FROSTSORREL_GSR_SUA = 0x100,  /* suspend */
+    FROSTSORREL_GSR_TM = 0x400,   /* a mailbox is in the slot */
+    FROSTSORREL_GSR_MIS = 0x1F000 /* the slot's number */
+};
+#define FROSTSORREL_GSR_MIS_SHIFT 12
+
+/* The options: the value of FROSTSORREL_OPTIONS. */
+enum {
+    FROSTSORREL_MTOS = 1, /* the smallest arbitration key is sent first, not the lowest mailbox */
+    FROSTSORREL_WUBA = 2  /* a frame wakes the model */
+};
+
+/* The levels of TEC and REC: above 96 is warning, above 127 is passive, and TEC 256 is bus off. */
+enum { FROSTSORREL_WARNING_ABOVE = 96, FROSTSORREL_PASSIVE_ABOVE = 127, FROSTSORREL_BUS_OFF_TEC = 256 };
 
 /*
  * Makes the image of a model that has just been switched on.
@@ -174,11 +242,51 @@ uint64_t frostsorrel_step(uint8_t *image, size_t image_len, const uint8_t *event
 uint64_t frostsorrel_read(const uint8_t *image, size_t image_len, uint32_t number);
 
 /*
- * Fills the 16 bytes of an event. Its data bytes become 0: what a data frame carries is put into
- * event[8] and on afterwards. What the operation does not use is given as 0.
+ * Runs a whole trace from a fresh model and writes its listing, the text that `replay` prints.
+ *
+ * A trace is three sections, one behind the other and nothing after them: mailbox writes; register
+ * writes and options; any events. A section is a count in two bytes, low byte first, at most 1,000,
+ * and so many events of 16 bytes. The operation byte alone decides whether an event may stand there.
+ *
+ * text_len is 39,033 or more: the listing stands at the front of the text, no 0 behind it; every other
+ * byte stays, and the answer is how many bytes the listing has. Of a trace it is the line
+ * `step code mailbox count`, a line of four numbers for each event, refused ones too, and `end` with
+ * how many they were; of any other bytes it is the one line `trace refused 8`. Each ends in a line feed.
+ *
+ * Any smaller text_len: no byte is written, and the answer is 0.
  */
-static inline void frostsorrel_event(uint8_t *event, uint8_t operation, uint8_t target, uint8_t word,
-                                     uint32_t value)
+uint64_t frostsorrel_listing(const uint8_t *trace, size_t trace_len, uint8_t *text, size_t text_len);
+
+/* ---- identifiers: the number that people write, and word 0 of a mailbox or the value of a frame */
+
+/* A standard identifier, 0 to 0x7FF, in its place. Bits above those are dropped. */
+static inline uint32_t frostsorrel_standard(uint32_t identifier)
+{
+    return (identifier & 0x7FFu) << 18;
+}
+
+/* An extended identifier, 0 to 0x1FFFFFFF, in its place, with IDE. Bits above those are dropped. */
+static inline uint32_t frostsorrel_extended(uint32_t identifier)
+{
+    return FROSTSORREL_IDE | (identifier & FROSTSORREL_IDENTIFIER_BITS);
+}
+
+/* And back: 11 bits where IDE is 0, else 29. */
+static inline uint32_t frostsorrel_identifier(uint32_t word)
+{
+    uint32_t identifier = word & FROSTSORREL_IDENTIFIER_BITS;
+
+    return word & FROSTSORREL_IDE ? identifier : identifier >> 18;
+}
+
+/* ---- events: each of these fills 16 bytes and answers them, for a call of frostsorrel_step */
+
+/*
+ * Any event. Its data bytes become 0: what a data frame carries is put into event[8] and on
+ * afterwards. What the operation does not use is given as 0.
+ */
+static inline uint8_t *frostsorrel_event(uint8_t *event, uint8_t operation, uint8_t target, uint8_t word,
+                                         uint32_t value)
 {
     int i;
 
@@ -190,7 +298,76 @@ static inline void frostsorrel_event(uint8_t *event, uint8_t operation, uint8_t 
         event[4 + i] = (uint8_t)(value >> 8 * i);
     for (i = 8; i < FROSTSORREL_EVENT_BYTES; i++)
         event[i] = 0;
+    return event;
 }
+
+static inline uint8_t *frostsorrel_write_register(uint8_t *event, uint8_t number, uint32_t value)
+{
+    return frostsorrel_event(event, FROSTSORREL_WRITE_REGISTER, number, 0, value);
+}
+
+static inline uint8_t *frostsorrel_write_mailbox(uint8_t *event, uint8_t mailbox, uint8_t word,
+                                                 uint32_t value)
+{
+    return frostsorrel_event(event, FROSTSORREL_WRITE_MAILBOX, mailbox, word, value);
+}
+
+/*
+ * A data frame with the first dlc bytes of data; of a dlc above 8, which a step refuses, the first
+ * eight. The identifier is frostsorrel_standard(..) or frostsorrel_extended(..).
+ */
+static inline uint8_t *frostsorrel_data_frame(uint8_t *event, uint32_t identifier, uint8_t dlc,
+                                              const uint8_t *data)
+{
+    int i;
+
+    frostsorrel_event(event, FROSTSORREL_FRAME, dlc, 0, identifier);
+    for (i = 0; i < 8 && i < dlc; i++)
+        event[8 + i] = data[i];
+    return event;
+}
+
+static inline uint8_t *frostsorrel_remote_frame(uint8_t *event, uint32_t identifier, uint8_t dlc)
+{
+    return frostsorrel_event(event, FROSTSORREL_FRAME, dlc, 0, identifier | FROSTSORREL_FRAME_RTR);
+}
+
+/* ---- words: four bytes, low byte first */
+
+static inline uint32_t frostsorrel_word(const uint8_t *bytes)
+{
+    return (uint32_t)bytes[0] | (uint32_t)bytes[1] << 8 | (uint32_t)bytes[2] << 16 |
+           (uint32_t)bytes[3] << 24;
+}
+
+/* The value of an event. */
+static inline uint32_t frostsorrel_event_value(const uint8_t *event)
+{
+    return frostsorrel_word(event + 4);
+}
+
+/* Word 0 to 3 of mailbox 0 to 31, as it stands in the image; sleep hides nothing here. */
+static inline uint32_t frostsorrel_mailbox_word(const uint8_t *image, uint32_t mailbox, uint32_t word)
+{
+    return frostsorrel_word(image + 16 * mailbox + 4 * word);
+}
+
+/* Data byte 0 to 7 of mailbox 0 to 31. */
+static inline uint8_t frostsorrel_mailbox_data(const uint8_t *image, uint32_t mailbox, uint32_t byte)
+{
+    return image[16 * mailbox + 8 + byte];
+}
+
+/*
+ * Register word 0 to 31 as it stands in the image, words 22 to 27 too. This is not what the firmware
+ * sees asleep, and there is no GSR here: frostsorrel_read has both.
+ */
+static inline uint32_t frostsorrel_register_word(const uint8_t *image, uint32_t number)
+{
+    return frostsorrel_word(image + 16 * FROSTSORREL_MAILBOXES + 4 * number);
+}
+
+/* ---- answers */
 
 /* The parts of what fresh and step answer: refusal + 256 * mailbox + 65536 * count. */
 static inline uint32_t frostsorrel_answer_refusal(uint64_t answer)
@@ -217,6 +394,82 @@ static inline uint32_t frostsorrel_read_value(uint64_t answer)
 static inline uint32_t frostsorrel_read_refusal(uint64_t answer)
 {
     return (uint32_t)(answer >> 32);
+}
+
+/* ---- names, for messages; any number gets one */
+
+static inline const char *frostsorrel_name_of(const char *const *names, size_t count, uint32_t number)
+{
+    return number < count ? names[number] : "no name";
+}
+
+/* A register, and the other words of the block: "MC" to "REC", "mode" to "TSO", "word 28" on; "GSR". */
+static inline const char *frostsorrel_register_name(uint32_t number)
+{
+    static const char *const names[] = {
+        "MC", "MD", "TRS", "TRR", "TA", "AA", "RMP", "RML", "LAM", "GAM", "RFP", "CDR", "MBTIF",
+        "MBRIF", "MBIM", "GIF", "GIM", "BCR1", "BCR2", "TSC", "TEC", "REC", "mode", "waiting mode",
+        "slot", "recovery count", "options", "TSO", "word 28", "word 29", "word 30", "word 31", "GSR"};
+
+    return frostsorrel_name_of(names, sizeof names / sizeof names[0], number);
+}
+
+/* A bit of GIF, 0 to 7, as the manual calls it. */
+static inline const char *frostsorrel_gif_name(uint32_t bit)
+{
+    static const char *const names[] = {"WLIF",   "EPIF",  "BOIF", "TSOIF",
+                                        "TRMABF", "RMLIF", "WUIF", "RFPF"};
+
+    return frostsorrel_name_of(names, sizeof names / sizeof names[0], bit);
+}
+
+static inline const char *frostsorrel_operation_name(uint32_t operation)
+{
+    static const char *const names[] = {
+        "register write", "mailbox write", "frame", "start", "outcome", "receive error",
+        "eleven recessive bits", "tick", "mode", "options", "reset"};
+
+    return frostsorrel_name_of(names, sizeof names / sizeof names[0], operation);
+}
+
+static inline const char *frostsorrel_outcome_name(uint32_t outcome)
+{
+    static const char *const names[] = {"sent", "arbitration lost", "error"};
+
+    return frostsorrel_name_of(names, sizeof names / sizeof names[0], outcome);
+}
+
+/* A mode, or the waiting mode: 4 is "none". */
+static inline const char *frostsorrel_mode_name(uint32_t mode)
+{
+    static const char *const names[] = {"normal", "configuration", "sleep", "suspend", "none"};
+
+    return frostsorrel_name_of(names, sizeof names / sizeof names[0], mode);
+}
+
+static inline const char *frostsorrel_refusal_name(uint32_t refusal)
+{
+    static const char *const names[] = {"accepted", "bad image", "unknown",    "asleep",   "not allowed",
+                                        "busy",     "locked",    "slot empty", "bad trace"};
+
+    return frostsorrel_name_of(names, sizeof names / sizeof names[0], refusal);
+}
+
+/* The same as a sentence, without its full stop. */
+static inline const char *frostsorrel_refusal_reason(uint32_t refusal)
+{
+    static const char *const names[] = {
+        "the event was taken",
+        "the image is not one that the rules allow",
+        "there is no such operation, register, mailbox, word or outcome, or it can only be read",
+        "registers, mailboxes and options cannot be written while the model sleeps",
+        "the value is not allowed, or a byte that the event does not use is not 0",
+        "a mailbox is being sent, or waits to be",
+        "this cannot be changed in this mode, or while the mailbox is enabled",
+        "an outcome came while nothing was being sent",
+        "the file is not three sections of events that may stand there"};
+
+    return frostsorrel_name_of(names, sizeof names / sizeof names[0], refusal);
 }
 
 #ifdef __cplusplus
