@@ -59,6 +59,19 @@ int show_help(const char *help)
     return status;
 }
 
+/* ---- memory */
+
+void *grown(void *memory, size_t room)
+{
+    void *more = realloc(memory, room);
+
+    if (!more) {
+        complain("no memory left");
+        exit(COMMAND_FAILED); /* nothing is written before all of it is there */
+    }
+    return more;
+}
+
 /* ---- reading */
 
 static int is_standard(const char *path)
@@ -69,17 +82,6 @@ static int is_standard(const char *path)
 const char *name_of_input(const char *path)
 {
     return is_standard(path) ? "standard input" : path;
-}
-
-static void *grown(void *memory, size_t room)
-{
-    void *more = realloc(memory, room);
-
-    if (!more) {
-        complain("no memory left");
-        exit(COMMAND_FAILED); /* nothing is written before all of it is there */
-    }
-    return more;
 }
 
 static int read_open(FILE *file, const char *path, size_t limit, struct bytes *into)

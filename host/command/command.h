@@ -36,6 +36,9 @@ int asks_help(int argc, char **argv);
 /* Prints a help text to standard output. Answers the exit status. */
 int show_help(const char *help);
 
+/* As realloc; where there is no memory left it says so and ends the program. */
+void *grown(void *memory, size_t room);
+
 /* ---- reading */
 
 struct bytes {

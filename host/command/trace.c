@@ -1,0 +1,89 @@
+#include "trace.h"
+
+#include <stdlib.h>
+#include <string.h>
+
+static const char *const holds[SECTIONS] = {"mailbox writes", "register writes and options", "events"};
+
+int belongs(int section, uint8_t operation)
+{
+    switch (section) {
+    case 0:
+        return operation == FROSTSORREL_WRITE_MAILBOX;
+    case 1:
+        return operation == FROSTSORREL_WRITE_REGISTER || operation == FROSTSORREL_OPTIONS;
+    default:
+        return 1; /* unknown operations too: the run refuses them */
+    }
+}
+
+/* Goes by the operation byte alone. */
+static void find_misplaced(struct trace *t, int section)
+{
+    const struct section *s = &t->section[section];
+
+    for (int i = 0; i < s->count; i++) {
+        const uint8_t *event = s->events + FROSTSORREL_EVENT_BYTES * i;
+
+        if (belongs(section, event[0]))
+            continue;
+        text_add(&t->fault, "event %d of section %d, at byte %ld, is operation %d; this section holds %s", i + 1,
+                 section + 1, (long)(event - t->file.at), event[0], holds[section]);
+        return;
+    }
+}
+
+/* Takes one section off at this byte. Answers where the next one begins; a fault ends it. */
+static size_t take_section(struct trace *t, int section, size_t at)
+{
+    struct section *s = &t->section[section];
+    size_t left = t->file.length - at, needed;
+
+    if (left < 2) {
+        text_add(&t->fault, "too short: the file ends at byte %lu, before the count of section %d (%s)",
+                 (unsigned long)t->file.length, section + 1, holds[section]);
+        return at;
+    }
+    s->events = t->file.at + at + 2;
+    s->count = t->file.at[at] | t->file.at[at + 1] << 8;
+    needed = (size_t)s->count * FROSTSORREL_EVENT_BYTES;
+    if (s->count > MOST_IN_SECTION)
+        text_add(&t->fault, "over-counted: section %d (%s) counts %d events at byte %lu; %d are allowed", section + 1,
+                 holds[section], s->count, (unsigned long)at, MOST_IN_SECTION);
+    else if (left - 2 < needed)
+        text_add(&t->fault, "too short: section %d (%s) counts %d events, which take %lu bytes; the file has %lu more",
+                 section + 1, holds[section], s->count, (unsigned long)needed, (unsigned long)(left - 2));
+    else
+        find_misplaced(t, section);
+    t->events += s->count;
+    return at + 2 + needed;
+}
+
+static void take_apart(struct trace *t)
+{
+    size_t at = 0;
+
+    for (int section = 0; section < SECTIONS && !t->fault.length; section++)
+        at = take_section(t, section, at);
+    if (!t->fault.length && at < t->file.length)
+        text_add(&t->fault, "too long: the third section ends at byte %lu, and more bytes follow", (unsigned long)at);
+    if (!t->fault.length)
+        return;
+    memset(t->section, 0, sizeof t->section);
+    t->events = 0;
+}
+
+int read_trace(const char *path, struct trace *into)
+{
+    memset(into, 0, sizeof *into);
+    if (read_whole(path, LONGEST_TRACE, &into->file) != COMMAND_DONE)
+        return COMMAND_FAILED;
+    take_apart(into);
+    return COMMAND_DONE;
+}
+
+void free_trace(struct trace *t)
+{
+    free(t->file.at);
+    text_free(&t->fault);
+}
