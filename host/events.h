@@ -11,7 +11,11 @@ struct event {
     uint8_t bytes[EVENT_BYTES];
 };
 
-enum { SENT = 0, ARBITRATION_LOST = 1, ERROR = 2 };
+enum {
+    SENT = FROSTSORREL_SENT,
+    ARBITRATION_LOST = FROSTSORREL_ARBITRATION_LOST,
+    ERROR = FROSTSORREL_ERROR
+};
 
 static inline struct event plain_event(int operation, int target, int word, uint32_t value)
 {
@@ -44,7 +48,7 @@ static inline struct event data_frame(uint32_t identifier, int dlc, uint64_t dat
 
 static inline struct event remote_frame(uint32_t identifier, int dlc)
 {
-    return plain_event(FROSTSORREL_FRAME, dlc, 0, identifier | 0x40000000);
+    return plain_event(FROSTSORREL_FRAME, dlc, 0, identifier | FROSTSORREL_FRAME_RTR);
 }
 
 static inline struct event start(void)

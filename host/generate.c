@@ -83,7 +83,7 @@ static uint32_t edge_value(void)
 /* From a handful, from a larger pool, or any. */
 static uint32_t any_identifier(void)
 {
-    static const uint32_t few[] = {STANDARD(0x123), EXTENDED(0x123, 0), EXTENDED(0x7FF, 0x3FFFF)};
+    const uint32_t few[] = {STANDARD(0x123), EXTENDED(0x123, 0), EXTENDED(0x7FF, 0x3FFFF)};
     static const uint32_t bases[] = {0x123, 0x122, 0x7FF, 0x000, 0x523};
     static const uint32_t lows[] = {0, 1, 0x20000, 0x3FFFF};
     uint32_t base = one_in(12) ? draw(0x800) : ONE_OF(bases);

@@ -14,20 +14,26 @@
 /* Word k of mailbox n. */
 #define MAILBOX(n, k) (4 * (n) + (k))
 
-/* The register words stand behind the 128 words of the mailboxes. */
+/* The register words stand behind the words of the mailboxes. */
 enum {
-    MC = 128, MD, TRS, TRR, TA, AA, RMP, RML, LAM, GAM, RFP, CDR, MBTIF, MBRIF, MBIM, GIF, GIM,
-    BCR1, BCR2, TSC, TEC, REC, MODE, WAITING, SLOT, RECOVERY, OPTIONS, TSO, SPARE
+    MC = MAILBOX(FROSTSORREL_MAILBOXES, 0), MD, TRS, TRR, TA, AA, RMP, RML, LAM, GAM, RFP, CDR, MBTIF,
+    MBRIF, MBIM, GIF, GIM, BCR1, BCR2, TSC, TEC, REC, MODE, WAITING, SLOT, RECOVERY, OPTIONS, TSO, SPARE
 };
 
-enum { NORMAL_MODE = 0, CONFIGURATION = 1, SLEEP = 2, SUSPEND = 3, NO_MODE = 4 };
-enum { EMPTY_SLOT = 31, BUS_OFF_TEC = 256 };
+enum {
+    NORMAL_MODE = FROSTSORREL_NORMAL,
+    CONFIGURATION = FROSTSORREL_CONFIGURATION,
+    SLEEP = FROSTSORREL_SLEEP,
+    SUSPEND = FROSTSORREL_SUSPEND,
+    NO_MODE = FROSTSORREL_NO_MODE
+};
+enum { EMPTY_SLOT = FROSTSORREL_EMPTY_SLOT, BUS_OFF_TEC = FROSTSORREL_BUS_OFF_TEC };
 
 /* Word 0 of a mailbox, and the same places in the value of a frame event. */
-#define STANDARD(identifier) ((uint32_t)(identifier) << 18)
-#define EXTENDED(base, low) (0x80000000u | STANDARD(base) | (uint32_t)(low))
-#define MASKED 0x40000000u /* GAME, or LAME in mailbox 31 */
-#define RFH 0x20000000u
+#define STANDARD(identifier) frostsorrel_standard((uint32_t)(identifier))
+#define EXTENDED(base, low) (FROSTSORREL_IDE | STANDARD(base) | (uint32_t)(low))
+#define MASKED FROSTSORREL_GAME
+#define RFH FROSTSORREL_RFH
 
 /* Word 1 of a mailbox. */
 #define CONTROL(stamp, rtr, dlc) ((uint32_t)(stamp) << 16 | (uint32_t)(rtr) << 4 | (uint32_t)(dlc))
@@ -40,9 +46,7 @@ static inline void put(uint8_t *image, int word, uint32_t value)
 
 static inline uint32_t word_of(const uint8_t *image, int word)
 {
-    const uint8_t *at = image + 4 * word;
-
-    return at[0] | (uint32_t)at[1] << 8 | (uint32_t)at[2] << 16 | (uint32_t)at[3] << 24;
+    return frostsorrel_word(image + 4 * word);
 }
 
 /* The fresh image, written by hand, so that the tests do not rest on frostsorrel_fresh. */
@@ -68,15 +72,10 @@ static inline int first_difference(const uint8_t *a, const uint8_t *b)
 /* A word's name, for messages. The next call overwrites it. */
 static inline const char *word_name(int word)
 {
-    static const char *const registers[] = {
-        "MC", "MD", "TRS", "TRR", "TA", "AA", "RMP", "RML", "LAM", "GAM", "RFP", "CDR", "MBTIF",
-        "MBRIF", "MBIM", "GIF", "GIM", "BCR1", "BCR2", "TSC", "TEC", "REC", "mode", "waiting mode",
-        "slot", "recovery count", "options", "TSO", "word 28", "word 29", "word 30", "word 31",
-    };
     static char name[40];
 
     if (word >= MC)
-        return registers[word - MC];
+        return frostsorrel_register_name((uint32_t)(word - MC));
     snprintf(name, sizeof name, "mailbox %d word %d", word / 4, word % 4);
     return name;
 }

@@ -414,7 +414,7 @@ static void busy_slot(void)
 
 static void busy_requests(void)
 {
-    static const uint32_t written[] = {STANDARD(9), CONTROL(5, 1, 8), 0x11111111, 0x22222222};
+    const uint32_t written[] = {STANDARD(9), CONTROL(5, 1, 8), 0x11111111, 0x22222222};
 
     begin("busy: a request waits", NORMAL);
     given({TRS, BIT(0) | BIT(30)});
@@ -516,7 +516,7 @@ static const struct lock {
 /* All other mailboxes have the opposite bits, so that only this one's can decide. */
 static void lock_of(int n, struct lock l)
 {
-    static const uint32_t written[] = {RFH | STANDARD(3), CONTROL(1, 1, 2), 0x33333333, 0x44444444};
+    const uint32_t written[] = {RFH | STANDARD(3), CONTROL(1, 1, 2), 0x33333333, 0x44444444};
     uint32_t bit = BIT(n);
 
     begin("locked: words of a mailbox", NORMAL);

@@ -1,0 +1,235 @@
+/*
+ * The inline functions and constants of frostsorrel.h against numbers worked out by hand. It calls nothing of
+ * the library and is C99, C11 and C++17 at once: host/test_header compiles it as each of them.
+ */
+#include <stdio.h>
+#include <string.h>
+
+#include "check.h"
+#include "frostsorrel.h"
+
+#define COUNT(table) (sizeof(table) / sizeof((table)[0]))
+
+static void same_number(const char *what, uint64_t got, uint64_t expected)
+{
+    check(got == expected, "%s is 0x%llX, not 0x%llX", what, (unsigned long long)got,
+          (unsigned long long)expected);
+}
+
+static void same_name(const char *what, uint32_t number, const char *got, const char *expected)
+{
+    check(strcmp(got, expected) == 0, "%s %lu is \"%s\", not \"%s\"", what, (unsigned long)number, got,
+          expected);
+}
+
+/* ---- the version */
+
+static void version(void)
+{
+    char numbers[40];
+
+    snprintf(numbers, sizeof numbers, "%d.%d.%d", FROSTSORREL_VERSION_MAJOR, FROSTSORREL_VERSION_MINOR,
+             FROSTSORREL_VERSION_PATCH);
+    same_name("version", 0, FROSTSORREL_VERSION, numbers);
+}
+
+/* ---- sizes: what the parts add up to */
+
+static void sizes(void)
+{
+    const char longest_listing[] = "step code mailbox count\n" "end 3000\n";
+
+    same_number("the image", FROSTSORREL_IMAGE_BYTES, 16 * FROSTSORREL_MAILBOXES + 4 * 32);
+    same_number("the longest trace", FROSTSORREL_TRACE_BYTES,
+                3 * (2 + FROSTSORREL_EVENT_BYTES * FROSTSORREL_SECTION_EVENTS));
+    same_number("the longest listing", FROSTSORREL_LISTING_BYTES, strlen(longest_listing) + 3000 * 13);
+}
+
+/* ---- identifiers */
+
+static void identifiers(void)
+{
+    same_number("standard 0x123", frostsorrel_standard(0x123), 0x048C0000);
+    same_number("standard 0x718", frostsorrel_standard(0x718), 0x1C600000);
+    same_number("standard 0x7FF", frostsorrel_standard(0x7FF), 0x1FFC0000);
+    same_number("standard 0x800 has no place", frostsorrel_standard(0x800), 0);
+    same_number("extended 0x11234567", frostsorrel_extended(0x11234567), 0x91234567);
+    same_number("extended 0", frostsorrel_extended(0), 0x80000000);
+    same_number("extended 0x20000000 has no place", frostsorrel_extended(0xE0000000), 0x80000000);
+    for (uint32_t bit = 0; bit < 11; bit++)
+        same_number("a standard identifier and back", frostsorrel_identifier(frostsorrel_standard(1u << bit)),
+                    1u << bit);
+    for (uint32_t bit = 0; bit < 29; bit++)
+        same_number("an extended identifier and back", frostsorrel_identifier(frostsorrel_extended(1u << bit)),
+                    1u << bit);
+    same_number("GAME and RFH are no identifier", frostsorrel_identifier(0x048C0000 | 0x60000000), 0x123);
+    same_number("nor of an extended one", frostsorrel_identifier(0xFFFFFFFF), 0x1FFFFFFF);
+}
+
+/* ---- events */
+
+/* The 16 bytes, and that the answer is the event that was given. */
+static void same_event(const char *what, const uint8_t *got, const uint8_t *event, const char *expected)
+{
+    char text[3 * FROSTSORREL_EVENT_BYTES + 1] = "";
+
+    for (size_t i = 0; i < FROSTSORREL_EVENT_BYTES; i++)
+        snprintf(text + 3 * i, 4, "%02x ", event[i]);
+    text[3 * FROSTSORREL_EVENT_BYTES - 1] = 0;
+    check(got == event, "%s: the answer is not the event", what);
+    check(strcmp(text, expected) == 0, "%s: %s, not %s", what, text, expected);
+}
+
+static void events(void)
+{
+    static const uint8_t data[9] = {0x11, 0x22, 0x33, 0x44, 0x55, 0x66, 0x77, 0x88, 0x99};
+    uint8_t e[FROSTSORREL_EVENT_BYTES];
+
+    memset(e, 0xA5, sizeof e);
+    same_event("any event", frostsorrel_event(e, 1, 2, 3, 0x87654321), e,
+               "01 02 03 00 21 43 65 87 00 00 00 00 00 00 00 00");
+    same_number("its value", frostsorrel_event_value(e), 0x87654321);
+    memset(e, 0xA5, sizeof e);
+    same_event("a register write", frostsorrel_write_register(e, FROSTSORREL_MC, 0x20), e,
+               "00 00 00 00 20 00 00 00 00 00 00 00 00 00 00 00");
+    memset(e, 0xA5, sizeof e);
+    same_event("a mailbox write", frostsorrel_write_mailbox(e, 31, 3, 0xFF000001), e,
+               "01 1f 03 00 01 00 00 ff 00 00 00 00 00 00 00 00");
+    memset(e, 0xA5, sizeof e);
+    same_event("a data frame", frostsorrel_data_frame(e, frostsorrel_standard(0x123), 2, data), e,
+               "02 02 00 00 00 00 8c 04 11 22 00 00 00 00 00 00");
+    memset(e, 0xA5, sizeof e);
+    same_event("no data at all", frostsorrel_data_frame(e, frostsorrel_extended(1), 0, NULL), e,
+               "02 00 00 00 01 00 00 80 00 00 00 00 00 00 00 00");
+    memset(e, 0xA5, sizeof e);
+    same_event("nine data bytes", frostsorrel_data_frame(e, frostsorrel_extended(1), 9, data), e,
+               "02 09 00 00 01 00 00 80 11 22 33 44 55 66 77 88");
+    memset(e, 0xA5, sizeof e);
+    same_event("a remote frame", frostsorrel_remote_frame(e, frostsorrel_extended(0x11234567), 8), e,
+               "02 08 00 00 67 45 23 d1 00 00 00 00 00 00 00 00");
+}
+
+/* ---- the image, each byte of which is another than its neighbours */
+
+static void words(void)
+{
+    uint8_t image[FROSTSORREL_IMAGE_BYTES];
+
+    for (size_t i = 0; i < sizeof image; i++)
+        image[i] = (uint8_t)(i % 251);
+    same_number("word 0 of mailbox 0", frostsorrel_mailbox_word(image, 0, 0), 0x03020100);
+    same_number("word 3 of mailbox 5", frostsorrel_mailbox_word(image, 5, 3), 0x5F5E5D5C);
+    same_number("word 3 of mailbox 31", frostsorrel_mailbox_word(image, 31, 3), 0x09080706);
+    same_number("data byte 0 of mailbox 5", frostsorrel_mailbox_data(image, 5, 0), 0x58);
+    same_number("data byte 7 of mailbox 31", frostsorrel_mailbox_data(image, 31, 7), 0x09);
+    same_number("MC", frostsorrel_register_word(image, FROSTSORREL_MC), 0x0D0C0B0A);
+    same_number("TSO", frostsorrel_register_word(image, FROSTSORREL_WORD_TSO), 0x79787776);
+    image[3] = 0xFF;
+    same_number("a word's top bit", frostsorrel_mailbox_word(image, 0, 0), 0xFF020100);
+}
+
+static void answers(void)
+{
+    same_number("the refusal", frostsorrel_answer_refusal(0x200507), 7);
+    same_number("the mailbox", frostsorrel_answer_mailbox(0x200507), 5);
+    same_number("the count", frostsorrel_answer_count(0x200507), 0x20);
+    same_number("a read's value", frostsorrel_read_value(0x2FFFFFFFFu), 0xFFFFFFFF);
+    same_number("a read's refusal", frostsorrel_read_refusal(0x2FFFFFFFFu), 2);
+}
+
+/* ---- constants: each GIF and GSR bit is the next one, but for those that GSR does not have */
+
+static void bits(void)
+{
+    static const uint32_t gif[] = {FROSTSORREL_WLIF,   FROSTSORREL_EPIF,  FROSTSORREL_BOIF, FROSTSORREL_TSOIF,
+                                   FROSTSORREL_TRMABF, FROSTSORREL_RMLIF, FROSTSORREL_WUIF, FROSTSORREL_RFPF};
+    static const char *const gif_names[] = {"WLIF", "EPIF", "BOIF", "TSOIF", "TRMABF", "RMLIF", "WUIF", "RFPF"};
+
+    for (uint32_t bit = 0; bit < COUNT(gif); bit++) {
+        same_number(gif_names[bit], gif[bit], 1u << bit);
+        same_name("GIF bit", bit, frostsorrel_gif_name(bit), gif_names[bit]);
+    }
+    same_number("fresh GSR", FROSTSORREL_GSR_MIS | FROSTSORREL_GSR_CCE, 0x1F080);
+    same_number("suspended GSR", FROSTSORREL_GSR_MIS | FROSTSORREL_GSR_SUA, 0x1F100);
+    same_number("GSR asleep", FROSTSORREL_GSR_MIS | FROSTSORREL_GSR_SMA, 0x1F040);
+    same_number("GSR while mailbox 2 sends", 2u << FROSTSORREL_GSR_MIS_SHIFT | FROSTSORREL_GSR_TM, 0x2400);
+    same_number("GSR in bus off", FROSTSORREL_GSR_BO | FROSTSORREL_GSR_EP | FROSTSORREL_GSR_EW, 7);
+    same_number("the slot in GSR", (uint32_t)FROSTSORREL_GSR_MIS >> FROSTSORREL_GSR_MIS_SHIFT,
+                FROSTSORREL_EMPTY_SLOT);
+    same_number("TSO in GSR", FROSTSORREL_GSR_TSO, 8);
+    same_number("word 0", FROSTSORREL_IDE | FROSTSORREL_GAME | FROSTSORREL_RFH | FROSTSORREL_IDENTIFIER_BITS,
+                0xFFFFFFFF);
+    same_number("word 1", FROSTSORREL_RTR | FROSTSORREL_DLC_BITS, 0x1F);
+}
+
+/* ---- names: each table to its end, and a number behind it */
+
+typedef const char *name_function(uint32_t number);
+
+static void names_are(const char *what, name_function *name, const char *const *expected, uint32_t count)
+{
+    for (uint32_t number = 0; number < count; number++)
+        same_name(what, number, name(number), expected[number]);
+    same_name(what, count, name(count), "no name");
+    same_name(what, 0xFFFFFFFF, name(0xFFFFFFFF), "no name");
+}
+
+static void names(void)
+{
+    static const char *const operations[] = {"register write", "mailbox write", "frame", "start", "outcome",
+                                             "receive error", "eleven recessive bits", "tick", "mode",
+                                             "options", "reset"};
+    static const char *const outcomes[] = {"sent", "arbitration lost", "error"};
+    static const char *const modes[] = {"normal", "configuration", "sleep", "suspend", "none"};
+    static const char *const refusals[] = {"accepted", "bad image", "unknown", "asleep", "not allowed",
+                                           "busy", "locked", "slot empty", "bad trace"};
+
+    names_are("operation", frostsorrel_operation_name, operations, COUNT(operations));
+    names_are("outcome", frostsorrel_outcome_name, outcomes, COUNT(outcomes));
+    names_are("mode", frostsorrel_mode_name, modes, COUNT(modes));
+    names_are("refusal", frostsorrel_refusal_name, refusals, COUNT(refusals));
+    for (uint32_t refusal = 0; refusal < COUNT(refusals); refusal++)
+        check(strlen(frostsorrel_refusal_reason(refusal)) > 15, "refusal %lu has no reason",
+              (unsigned long)refusal);
+}
+
+static void register_names(void)
+{
+    static const struct {
+        uint32_t number;
+        const char *name;
+    } registers[] = {
+        {FROSTSORREL_MC, "MC"},       {FROSTSORREL_MD, "MD"},       {FROSTSORREL_TRS, "TRS"},
+        {FROSTSORREL_TRR, "TRR"},     {FROSTSORREL_TA, "TA"},       {FROSTSORREL_AA, "AA"},
+        {FROSTSORREL_RMP, "RMP"},     {FROSTSORREL_RML, "RML"},     {FROSTSORREL_LAM, "LAM"},
+        {FROSTSORREL_GAM, "GAM"},     {FROSTSORREL_RFP, "RFP"},     {FROSTSORREL_CDR, "CDR"},
+        {FROSTSORREL_MBTIF, "MBTIF"}, {FROSTSORREL_MBRIF, "MBRIF"}, {FROSTSORREL_MBIM, "MBIM"},
+        {FROSTSORREL_GIF, "GIF"},     {FROSTSORREL_GIM, "GIM"},     {FROSTSORREL_BCR1, "BCR1"},
+        {FROSTSORREL_BCR2, "BCR2"},   {FROSTSORREL_TSC, "TSC"},     {FROSTSORREL_TEC, "TEC"},
+        {FROSTSORREL_REC, "REC"},     {FROSTSORREL_GSR, "GSR"},     {FROSTSORREL_WORD_MODE, "mode"},
+        {FROSTSORREL_WORD_WAITING, "waiting mode"},
+        {FROSTSORREL_WORD_SLOT, "slot"},
+        {FROSTSORREL_WORD_RECOVERY, "recovery count"},
+        {FROSTSORREL_WORD_OPTIONS, "options"},
+        {FROSTSORREL_WORD_TSO, "TSO"},
+        {28, "word 28"}, {31, "word 31"}, {33, "no name"},
+    };
+
+    for (size_t i = 0; i < COUNT(registers); i++)
+        same_name("register", registers[i].number, frostsorrel_register_name(registers[i].number),
+                  registers[i].name);
+}
+
+int main(int argc, char **argv)
+{
+    version();
+    sizes();
+    identifiers();
+    events();
+    words();
+    answers();
+    bits();
+    names();
+    register_names();
+    return report(argc > 1 ? argv[1] : "host header");
+}
