@@ -68,7 +68,9 @@ static void identifiers(void)
 
 /* ---- events */
 
-/* The 16 bytes, and that the answer is the event that was given. */
+#define GUARD 0xA5
+
+/* The 16 bytes, none behind them, and that the answer is the event that was given. */
 static void same_event(const char *what, const uint8_t *got, const uint8_t *event, const char *expected)
 {
     char text[3 * FROSTSORREL_EVENT_BYTES + 1] = "";
@@ -77,34 +79,35 @@ static void same_event(const char *what, const uint8_t *got, const uint8_t *even
         snprintf(text + 3 * i, 4, "%02x ", event[i]);
     text[3 * FROSTSORREL_EVENT_BYTES - 1] = 0;
     check(got == event, "%s: the answer is not the event", what);
+    check(event[FROSTSORREL_EVENT_BYTES] == GUARD, "%s: the byte behind the event was written", what);
     check(strcmp(text, expected) == 0, "%s: %s, not %s", what, text, expected);
 }
 
 static void events(void)
 {
     static const uint8_t data[9] = {0x11, 0x22, 0x33, 0x44, 0x55, 0x66, 0x77, 0x88, 0x99};
-    uint8_t e[FROSTSORREL_EVENT_BYTES];
+    uint8_t e[FROSTSORREL_EVENT_BYTES + 1];
 
-    memset(e, 0xA5, sizeof e);
+    memset(e, GUARD, sizeof e);
     same_event("any event", frostsorrel_event(e, 1, 2, 3, 0x87654321), e,
                "01 02 03 00 21 43 65 87 00 00 00 00 00 00 00 00");
     same_number("its value", frostsorrel_event_value(e), 0x87654321);
-    memset(e, 0xA5, sizeof e);
+    memset(e, GUARD, sizeof e);
     same_event("a register write", frostsorrel_write_register(e, FROSTSORREL_MC, 0x20), e,
                "00 00 00 00 20 00 00 00 00 00 00 00 00 00 00 00");
-    memset(e, 0xA5, sizeof e);
+    memset(e, GUARD, sizeof e);
     same_event("a mailbox write", frostsorrel_write_mailbox(e, 31, 3, 0xFF000001), e,
                "01 1f 03 00 01 00 00 ff 00 00 00 00 00 00 00 00");
-    memset(e, 0xA5, sizeof e);
+    memset(e, GUARD, sizeof e);
     same_event("a data frame", frostsorrel_data_frame(e, frostsorrel_standard(0x123), 2, data), e,
                "02 02 00 00 00 00 8c 04 11 22 00 00 00 00 00 00");
-    memset(e, 0xA5, sizeof e);
+    memset(e, GUARD, sizeof e);
     same_event("no data at all", frostsorrel_data_frame(e, frostsorrel_extended(1), 0, NULL), e,
                "02 00 00 00 01 00 00 80 00 00 00 00 00 00 00 00");
-    memset(e, 0xA5, sizeof e);
+    memset(e, GUARD, sizeof e);
     same_event("nine data bytes", frostsorrel_data_frame(e, frostsorrel_extended(1), 9, data), e,
                "02 09 00 00 01 00 00 80 11 22 33 44 55 66 77 88");
-    memset(e, 0xA5, sizeof e);
+    memset(e, GUARD, sizeof e);
     same_event("a remote frame", frostsorrel_remote_frame(e, frostsorrel_extended(0x11234567), 8), e,
                "02 08 00 00 67 45 23 d1 00 00 00 00 00 00 00 00");
 }
