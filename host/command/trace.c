@@ -47,9 +47,9 @@ static size_t take_section(struct trace *t, int section, size_t at)
     s->events = t->file.at + at + 2;
     s->count = t->file.at[at] | t->file.at[at + 1] << 8;
     needed = (size_t)s->count * FROSTSORREL_EVENT_BYTES;
-    if (s->count > MOST_IN_SECTION)
+    if (s->count > FROSTSORREL_SECTION_EVENTS)
         text_add(&t->fault, "over-counted: section %d (%s) counts %d events at byte %lu; %d are allowed", section + 1,
-                 holds[section], s->count, (unsigned long)at, MOST_IN_SECTION);
+                 holds[section], s->count, (unsigned long)at, FROSTSORREL_SECTION_EVENTS);
     else if (left - 2 < needed)
         text_add(&t->fault, "too short: section %d (%s) counts %d events, which take %lu bytes; the file has %lu more",
                  section + 1, holds[section], s->count, (unsigned long)needed, (unsigned long)(left - 2));
@@ -76,7 +76,7 @@ static void take_apart(struct trace *t)
 int read_trace(const char *path, struct trace *into)
 {
     memset(into, 0, sizeof *into);
-    if (read_whole(path, LONGEST_TRACE, &into->file) != COMMAND_DONE)
+    if (read_whole(path, FROSTSORREL_TRACE_BYTES, &into->file) != COMMAND_DONE)
         return COMMAND_FAILED;
     take_apart(into);
     return COMMAND_DONE;

@@ -5,8 +5,7 @@
 #include "command.h"
 #include "frostsorrel.h"
 
-enum { SECTIONS = 3, MOST_IN_SECTION = 1000 };
-enum { LONGEST_TRACE = SECTIONS * (2 + MOST_IN_SECTION * FROSTSORREL_EVENT_BYTES) };
+enum { SECTIONS = 3 };
 
 struct trace {
     struct bytes file; /* to be freed by the caller */
