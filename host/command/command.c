@@ -48,6 +48,19 @@ int asks_help(int argc, char **argv)
     return 0;
 }
 
+const char *only_file(int argc, char **argv)
+{
+    if (argc < 2)
+        misused(argv[0], "which file?");
+    else if (argv[1][0] == '-' && argv[1][1])
+        misused(argv[0], "%s takes no %s", argv[0], argv[1]);
+    else if (argc > 2)
+        misused(argv[0], "one file at a time, and %s is another", argv[2]);
+    else
+        return argv[1];
+    return 0;
+}
+
 int show_help(const char *help)
 {
     struct text t = {0};

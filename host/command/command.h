@@ -33,6 +33,9 @@ PRINTF_LIKE(2, 3) int misused(const char *subcommand, const char *format, ...);
 /* Is --help among the words? */
 int asks_help(int argc, char **argv);
 
+/* For a subcommand whose one word is a file: its path, or 0 after a message. */
+const char *only_file(int argc, char **argv);
+
 /* Prints a help text to standard output. Answers the exit status. */
 int show_help(const char *help);
 

@@ -1,0 +1,33 @@
+/* A trace run step by step, with the image before and after each step and what was booked in it. */
+#ifndef RUN_H
+#define RUN_H
+
+#include "books.h"
+#include "trace.h"
+
+struct step {
+    const uint8_t *event;
+    uint64_t answer;
+    int first_made; /* its entries are made[first_made] and on, up to those of the next step */
+};
+
+struct run {
+    struct trace trace;
+    int steps;
+    struct step *step;                          /* step[1] to step[steps]; step[steps + 1] only ends the entries */
+    uint8_t (*image)[FROSTSORREL_IMAGE_BYTES];  /* image[0] is fresh, image[k] is what step k left */
+    struct made *made;
+    struct books books;
+    struct text fault; /* empty where every check held */
+};
+
+/*
+ * Reads a trace and runs it. Answers COMMAND_DONE, also for a malformed one, whose trace.fault is set and which has
+ * no steps; or COMMAND_FAILED after a message, with nothing to free. After every step the books must balance and RMP,
+ * RML and TRS must say the same; the answers must be those of frostsorrel_listing. What does not hold is a fault.
+ */
+int run_trace(const char *path, struct run *into);
+
+void free_run(struct run *r);
+
+#endif

@@ -1,0 +1,381 @@
+/* What a report says of a run, whatever it is laid out as. */
+#include <string.h>
+
+#include "report.h"
+#include "words.h"
+
+/* ---- the run as a whole */
+
+static int refusal_of(const struct run *r, int step)
+{
+    return (int)frostsorrel_answer_refusal(r->step[step].answer);
+}
+
+static int refusals_of(const struct run *r)
+{
+    int sum = 0;
+
+    for (int k = 1; k <= r->steps; k++)
+        sum += refusal_of(r, k) != FROSTSORREL_ACCEPTED;
+    return sum;
+}
+
+static int sum_of(const struct run *r, enum entry entry)
+{
+    int sum = 0;
+
+    for (int n = 0; n < FROSTSORREL_MAILBOXES; n++)
+        sum += (int)r->books.count[entry][n];
+    return sum;
+}
+
+static void say_count(struct text *t, int count, const char *thing, const char *what)
+{
+    text_add(t, count ? "%d " : "no ", count);
+    text_add(t, "%s%s%s", thing, count == 1 ? "" : "s", what);
+}
+
+void say_sums(struct text *t, const struct run *r)
+{
+    say_count(t, r->steps, "step", ", ");
+    say_count(t, sum_of(r, OVERWRITTEN), "frame", " lost, ");
+    say_count(t, refusals_of(r), "event", " refused");
+}
+
+uint32_t in_use(const struct run *r)
+{
+    uint32_t used = 0;
+
+    for (int k = 0; k <= r->steps; k++)
+        used |= frostsorrel_register_word(r->image[k], FROSTSORREL_MC);
+    for (int i = 0; i < r->step[r->steps + 1].first_made; i++)
+        used |= BIT(r->made[i].mailbox);
+    return used;
+}
+
+/* ---- the steps */
+
+/* Does the step book nothing and change nothing but counters that such steps move on? */
+static int is_quiet(const struct run *r, int step)
+{
+    const uint8_t *before = r->image[step - 1], *after = r->image[step];
+
+    for (int word = next_change(before, after, 0); word < WORDS; word = next_change(before, after, word + 1))
+        if (word != FIRST_REGISTER + FROSTSORREL_TSC && word != FIRST_REGISTER + FROSTSORREL_REC &&
+            word != FIRST_REGISTER + FROSTSORREL_WORD_RECOVERY)
+            return 0;
+    return r->step[step].first_made == r->step[step + 1].first_made;
+}
+
+/* The last of the quiet steps that do the same as this one, one behind the other: they are told as one. */
+static int last_of_row(const struct run *r, int first)
+{
+    int last = first;
+
+    while (last < r->steps && is_quiet(r, last) && is_quiet(r, last + 1) &&
+           r->step[last].answer == r->step[last + 1].answer &&
+           memcmp(r->step[last].event, r->step[last + 1].event, FROSTSORREL_EVENT_BYTES) == 0)
+        last++;
+    return last;
+}
+
+static void say_refusal(struct text *t, const struct run *r, int step)
+{
+    uint32_t refusal = frostsorrel_answer_refusal(r->step[step].answer);
+
+    text_add(t, "REFUSED %lu, %s: ", (unsigned long)refusal, frostsorrel_refusal_name(refusal));
+    say_reason(t, r->image[step - 1], r->step[step].event, refusal);
+}
+
+/* What may be wrong in an event that is refused for its own bytes is best seen in them. */
+static void say_bytes(struct text *t, const struct run *r, int step)
+{
+    int refusal = refusal_of(r, step);
+
+    if (refusal != FROSTSORREL_UNKNOWN && refusal != FROSTSORREL_NOT_ALLOWED)
+        return;
+    for (int i = 0; i < FROSTSORREL_EVENT_BYTES; i++)
+        text_add(t, i % 4 || !i ? "%s%02X" : "%s %02X", i ? " " : "", r->step[step].event[i]);
+}
+
+/* Each detail is two texts, which the next one uses again. */
+static void put_detail(struct pen *p, enum kind kind, struct text *words, struct text *numbers)
+{
+    p->detail(p, kind, words->at, numbers->length ? numbers->at : "");
+    text_free(words);
+    text_free(numbers);
+}
+
+static void tell_entries(struct pen *p, const struct run *r, int step)
+{
+    struct text words = {0}, none = {0};
+
+    for (int i = r->step[step].first_made; i < r->step[step + 1].first_made; i++) {
+        say_made(&words, &r->made[i], r->image[step - 1]);
+        put_detail(p, r->made[i].entry == OVERWRITTEN ? LOSS : BOOKED, &words, &none);
+    }
+}
+
+/* Answers how many words changed from before the first to behind the last step. */
+static int tell_changes(struct pen *p, const struct run *r, int first, int last)
+{
+    const uint8_t *before = r->image[first - 1], *after = r->image[last];
+    struct text words = {0}, numbers = {0};
+    int changes = 0;
+
+    for (int word = next_change(before, after, 0); word < WORDS; word = next_change(before, after, word + 1)) {
+        say_change(&words, before, after, word);
+        text_add(&numbers, "0x%08lX -> 0x%08lX", (unsigned long)frostsorrel_word(before + 4 * word),
+                 (unsigned long)frostsorrel_word(after + 4 * word));
+        put_detail(p, CHANGED, &words, &numbers);
+        changes++;
+    }
+    return changes;
+}
+
+static void tell_row(struct pen *p, const struct run *r, int first, int last)
+{
+    const struct step *s = &r->step[first];
+    struct text event = {0}, answer = {0}, words = {0}, numbers = {0};
+    int refused = refusal_of(r, first) != FROSTSORREL_ACCEPTED;
+
+    say_event(&event, s->event);
+    if (!refused)
+        say_answer(&answer, r->image[first - 1], s->event, s->answer);
+    p->step(p, first, last, event.at, answer.length ? answer.at : "");
+    if (refused) {
+        say_refusal(&words, r, first);
+        say_bytes(&numbers, r, first);
+        put_detail(p, REFUSAL, &words, &numbers);
+    }
+    tell_entries(p, r, first);
+    if (tell_changes(p, r, first, last) == 0 && !refused)
+        p->detail(p, NOTHING, "nothing changes", "");
+    p->step_done(p);
+    text_free(&event);
+    text_free(&answer);
+}
+
+void tell_steps(struct pen *p, const struct run *r)
+{
+    int last;
+
+    p->heading(p, "Step by step");
+    for (int first = 1; first <= r->steps; first = last + 1) {
+        last = last_of_row(r, first);
+        tell_row(p, r, first, last);
+    }
+}
+
+/* ---- the books */
+
+/* A row of a table is made of texts that grow. */
+struct cells {
+    struct text text[MOST_CELLS];
+    int count;
+};
+
+static struct text *next_cell(struct cells *c)
+{
+    return &c->text[c->count++];
+}
+
+static void put_row(struct pen *p, struct cells *c)
+{
+    const char *cells[MOST_CELLS];
+
+    for (int i = 0; i < c->count; i++)
+        cells[i] = c->text[i].length ? c->text[i].at : "";
+    p->row(p, cells, c->count, 0);
+    for (int i = 0; i < c->count; i++)
+        text_free(&c->text[i]);
+    c->count = 0;
+}
+
+static void name_mailbox(struct text *t, const struct run *r, int n)
+{
+    text_add(t, "mailbox %d, ", n);
+    say_identifier(t, frostsorrel_mailbox_word(r->image[r->steps], (uint32_t)n, 0));
+}
+
+static void tell_frames_of(struct pen *p, const struct run *r, int n)
+{
+    static const enum entry columns[] = {STORED, RELEASED, OVERWRITTEN, FRAME_RESET};
+    struct cells c = {0};
+    int held = (int)(r->books.held >> n & 1);
+
+    name_mailbox(next_cell(&c), r, n);
+    for (int i = 0; i < 4; i++)
+        text_add(next_cell(&c), "%lu", r->books.count[columns[i]][n]);
+    text_add(next_cell(&c), "%d", held);
+    if (held)
+        text_add(next_cell(&c), "the frame of step %d", r->books.stored_in[n]);
+    else
+        next_cell(&c);
+    put_row(p, &c);
+}
+
+static void tell_requests_of(struct pen *p, const struct run *r, int n)
+{
+    const struct books *b = &r->books;
+    struct cells c = {0};
+    int waiting = (int)(b->waiting >> n & 1);
+
+    name_mailbox(next_cell(&c), r, n);
+    text_add(next_cell(&c), "%lu", b->count[RAISED][n]);
+    text_add(next_cell(&c), "%lu", b->count[SENDINGS][n]);
+    text_add(next_cell(&c), "%lu", b->count[ABORTED][n]);
+    text_add(next_cell(&c), "%lu", b->count[SLEPT][n] + b->count[REQUEST_RESET][n]);
+    text_add(next_cell(&c), "%d", waiting);
+    if (waiting)
+        text_add(next_cell(&c), "the request of step %d", b->raised_in[n]);
+    else
+        next_cell(&c);
+    put_row(p, &c);
+}
+
+static const char *const frames_head[MOST_CELLS] = {"Frames",  "stored", "released", "overwritten",
+                                                    "dropped", "held",   ""};
+static const char *const requests_head[MOST_CELLS] = {"Requests", "raised",  "sent", "aborted",
+                                                      "dropped",  "waiting", ""};
+
+/* A table with a line for each of these mailboxes; no table where there is none. */
+static void tell_books(struct pen *p, const struct run *r, uint32_t mailboxes, const char *const *head,
+                       void (*tell_one)(struct pen *, const struct run *, int))
+{
+    if (!mailboxes)
+        return;
+    p->row(p, head, MOST_CELLS, 1);
+    for (int n = 0; n < FROSTSORREL_MAILBOXES; n++)
+        if (mailboxes & BIT(n))
+            tell_one(p, r, n);
+    p->row(p, 0, 0, 0);
+}
+
+/* The mailboxes that have such an entry. */
+static uint32_t mailboxes_with(const struct run *r, enum entry entry)
+{
+    uint32_t found = 0;
+
+    for (int n = 0; n < FROSTSORREL_MAILBOXES; n++)
+        if (r->books.count[entry][n])
+            found |= BIT(n);
+    return found;
+}
+
+/* One line for each line of the text. */
+static void tell_lines(struct pen *p, enum kind kind, const char *lines)
+{
+    while (*lines) {
+        size_t length = strcspn(lines, "\n");
+        struct text line = {0};
+
+        text_bytes(&line, lines, length);
+        p->line(p, kind, line.at);
+        text_free(&line);
+        lines += length + (lines[length] == '\n');
+    }
+}
+
+void tell_mailboxes(struct pen *p, const struct run *r)
+{
+    uint32_t used = in_use(r), receive = frostsorrel_register_word(r->image[r->steps], FROSTSORREL_MD);
+
+    p->heading(p, "The books of the mailboxes in use");
+    if (!used)
+        p->line(p, NOTHING, "No mailbox was used.");
+    tell_books(p, r, (used & receive) | mailboxes_with(r, STORED), frames_head, tell_frames_of);
+    tell_books(p, r, (used & ~receive) | mailboxes_with(r, RAISED), requests_head, tell_requests_of);
+    if (r->fault.length)
+        tell_lines(p, LOSS, r->fault.at);
+    else
+        p->line(p, BOOKED, "They balance, and after every step RMP, RML and TRS say the same as the books.");
+}
+
+/* ---- losses and refusals */
+
+static void tell_loss(struct pen *p, const struct run *r, int step, const struct made *m)
+{
+    struct text t = {0};
+
+    say_made(&t, m, r->image[step - 1]);
+    text_add(&t, " in step %d: ", step);
+    say_event(&t, r->step[m->since].event);
+    p->line(p, LOSS, t.at);
+    text_free(&t);
+}
+
+void tell_losses(struct pen *p, const struct run *r)
+{
+    p->heading(p, "Losses");
+    if (sum_of(r, OVERWRITTEN) == 0)
+        p->line(p, NOTHING, "No frame was lost.");
+    for (int k = 1; k <= r->steps; k++)
+        for (int i = r->step[k].first_made; i < r->step[k + 1].first_made; i++)
+            if (r->made[i].entry == OVERWRITTEN)
+                tell_loss(p, r, k, &r->made[i]);
+}
+
+void tell_refusals(struct pen *p, const struct run *r)
+{
+    p->heading(p, "Refusals");
+    if (refusals_of(r) == 0)
+        p->line(p, NOTHING, "No event was refused.");
+    for (int k = 1; k <= r->steps; k++) {
+        struct text t = {0};
+
+        if (refusal_of(r, k) == FROSTSORREL_ACCEPTED)
+            continue;
+        text_add(&t, "step %d, ", k);
+        say_event(&t, r->step[k].event);
+        text_add(&t, ": ");
+        say_refusal(&t, r, k);
+        p->line(p, REFUSAL, t.at);
+        text_free(&t);
+    }
+}
+
+/* ---- the end */
+
+static void put_line(struct pen *p, struct text *t)
+{
+    p->line(p, BOOKED, t->at);
+    text_free(t);
+}
+
+static void tell_flags(struct pen *p, const uint8_t *image, uint32_t number, const char *meaning)
+{
+    struct text t = {0};
+
+    text_add(&t, "%s (%s): ", frostsorrel_register_name(number), meaning);
+    say_mailboxes(&t, frostsorrel_register_word(image, number));
+    put_line(p, &t);
+}
+
+void tell_state(struct pen *p, const struct run *r)
+{
+    const uint8_t *image = r->image[r->steps];
+    uint32_t slot = frostsorrel_register_word(image, FROSTSORREL_WORD_SLOT);
+    uint32_t waiting = frostsorrel_register_word(image, FROSTSORREL_WORD_WAITING);
+    uint32_t interrupts = frostsorrel_register_word(image, FROSTSORREL_GIF);
+    struct text t = {0};
+
+    p->heading(p, "At the end");
+    text_add(&t, "mode: %s", frostsorrel_mode_name(frostsorrel_register_word(image, FROSTSORREL_WORD_MODE)));
+    if (waiting != FROSTSORREL_NO_MODE)
+        text_add(&t, ", and %s waits", frostsorrel_mode_name(waiting));
+    put_line(p, &t);
+    text_add(&t, "slot:");
+    say_slot(&t, slot);
+    put_line(p, &t);
+    text_add(&t, "TEC %lu, REC %lu: error state %s", (unsigned long)frostsorrel_register_word(image, FROSTSORREL_TEC),
+             (unsigned long)frostsorrel_register_word(image, FROSTSORREL_REC), error_state(image));
+    put_line(p, &t);
+    text_add(&t, "TSC %lu", (unsigned long)frostsorrel_register_word(image, FROSTSORREL_TSC));
+    put_line(p, &t);
+    tell_flags(p, image, FROSTSORREL_RMP, "a frame is held");
+    tell_flags(p, image, FROSTSORREL_RML, "a frame was lost since the last release");
+    text_add(&t, interrupts ? "GIF:" : "GIF: no bit");
+    say_interrupts(&t, "", interrupts);
+    put_line(p, &t);
+}

@@ -1,0 +1,370 @@
+#include "words.h"
+
+#include <string.h>
+
+/* ---- parts of words */
+
+static unsigned long wide(uint32_t value)
+{
+    return value;
+}
+
+/* The next row of bits without a gap, from this bit on. Answers its first bit and the bit behind it; 32 if none. */
+static int next_row(uint32_t bits, int from, int *behind)
+{
+    while (from < 32 && !(bits & BIT(from)))
+        from++;
+    *behind = from;
+    while (*behind < 32 && bits & BIT(*behind))
+        ++*behind;
+    return from;
+}
+
+void say_mailboxes(struct text *t, uint32_t bits)
+{
+    const char *before = bits & (bits - 1) ? "mailboxes " : "mailbox ";
+    int behind;
+
+    if (!bits)
+        text_add(t, "no mailbox");
+    for (int n = next_row(bits, 0, &behind); n < 32; n = next_row(bits, behind, &behind)) {
+        text_add(t, "%s%d", before, n);
+        if (behind > n + 1)
+            text_add(t, behind > n + 2 ? " to %d" : ", %d", behind - 1);
+        before = ", ";
+    }
+}
+
+/* "+5", "-0 to 7": the bits that rose or fell. */
+static void say_bits(struct text *t, char sign, uint32_t bits)
+{
+    int behind;
+
+    for (int n = next_row(bits, 0, &behind); n < 32; n = next_row(bits, behind, &behind)) {
+        text_add(t, " %c%d", sign, n);
+        if (behind > n + 1)
+            text_add(t, behind > n + 2 ? " to %c%d" : " %c%d", sign, behind - 1);
+    }
+}
+
+void say_interrupts(struct text *t, const char *sign, uint32_t bits)
+{
+    for (int n = 0; n < 8; n++)
+        if (bits & BIT(n))
+            text_add(t, " %s%d %s", sign, n, frostsorrel_gif_name((uint32_t)n));
+}
+
+static void say_options(struct text *t, const char *sign, uint32_t value)
+{
+    if (value & FROSTSORREL_MTOS)
+        text_add(t, " %sMTOS", sign);
+    if (value & FROSTSORREL_WUBA)
+        text_add(t, " %sWUBA", sign);
+}
+
+void say_identifier(struct text *t, uint32_t word_0)
+{
+    if (word_0 & FROSTSORREL_IDE)
+        text_add(t, "ext 0x%08lX", wide(frostsorrel_identifier(word_0)));
+    else
+        text_add(t, "0x%03lX", wide(frostsorrel_identifier(word_0)));
+}
+
+static void say_data(struct text *t, const uint8_t *data, int count)
+{
+    for (int i = 0; i < count; i++)
+        text_add(t, " %02X", data[i]);
+}
+
+/* A register whose bit n is mailbox n's. */
+static int is_flag_word(uint32_t number)
+{
+    return number <= FROSTSORREL_MBIM && number != FROSTSORREL_LAM && number != FROSTSORREL_GAM;
+}
+
+static int is_interrupt_word(uint32_t number)
+{
+    return number == FROSTSORREL_GIF || number == FROSTSORREL_GIM;
+}
+
+/* ---- events */
+
+static void say_register_write(struct text *t, const uint8_t *event)
+{
+    uint32_t number = event[1], value = frostsorrel_event_value(event);
+
+    if (number <= FROSTSORREL_REC || number == FROSTSORREL_GSR)
+        text_add(t, "write %s = 0x%lX", frostsorrel_register_name(number), wide(value));
+    else
+        text_add(t, "write register %lu = 0x%lX", wide(number), wide(value));
+    if (is_flag_word(number)) {
+        text_add(t, ": ");
+        say_mailboxes(t, value);
+    } else if (is_interrupt_word(number) && value) {
+        text_add(t, ":");
+        say_interrupts(t, "", value);
+    } else if (number == FROSTSORREL_BCR2) {
+        text_add(t, ": SJW %lu, TSEG2 %lu, TSEG1 %lu", wide(value >> 8 & 3), wide(value >> 4 & 7), wide(value & 15));
+    }
+}
+
+static void say_word_0(struct text *t, uint32_t value)
+{
+    text_add(t, " identifier ");
+    say_identifier(t, value);
+    text_add(t, "%s%s", value & FROSTSORREL_GAME ? ", masked" : "", value & FROSTSORREL_RFH ? ", RFH" : "");
+}
+
+static void say_word_1(struct text *t, uint32_t value)
+{
+    text_add(t, " DLC %lu%s", wide(value & FROSTSORREL_DLC_BITS), value & FROSTSORREL_RTR ? ", RTR" : "");
+    if (value >> 16)
+        text_add(t, ", time stamp %lu", wide(value >> 16));
+}
+
+static void say_mailbox_write(struct text *t, const uint8_t *event)
+{
+    text_add(t, "mailbox %d word %d = 0x%08lX", event[1], event[2], wide(frostsorrel_event_value(event)));
+    if (event[2] > 3)
+        return;
+    text_add(t, ":");
+    if (event[2] == 0)
+        say_word_0(t, frostsorrel_event_value(event));
+    else if (event[2] == 1)
+        say_word_1(t, frostsorrel_event_value(event));
+    else
+        say_data(t, event + 4, 4);
+}
+
+static void say_frame(struct text *t, const uint8_t *event)
+{
+    uint32_t value = frostsorrel_event_value(event);
+    int remote = (value & FROSTSORREL_FRAME_RTR) != 0;
+
+    text_add(t, remote ? "remote frame " : "frame ");
+    say_identifier(t, value);
+    if (remote || event[1] > 8)
+        text_add(t, " DLC %d", event[1]);
+    else if (event[1] == 0)
+        text_add(t, " no data");
+    else
+        text_add(t, " data");
+    if (!remote)
+        say_data(t, event + 8, event[1] < 8 ? event[1] : 8);
+}
+
+static void say_mode(struct text *t, const uint8_t *event)
+{
+    uint32_t value = frostsorrel_event_value(event);
+
+    if (value <= FROSTSORREL_SUSPEND)
+        text_add(t, "mode %s", frostsorrel_mode_name(value));
+    else
+        text_add(t, "mode %lu", wide(value));
+}
+
+void say_event(struct text *t, const uint8_t *event)
+{
+    switch (event[0]) {
+    case FROSTSORREL_WRITE_REGISTER:
+        say_register_write(t, event);
+        break;
+    case FROSTSORREL_WRITE_MAILBOX:
+        say_mailbox_write(t, event);
+        break;
+    case FROSTSORREL_FRAME:
+        say_frame(t, event);
+        break;
+    case FROSTSORREL_OUTCOME:
+        if (event[1] <= FROSTSORREL_ERROR)
+            text_add(t, "outcome %s", frostsorrel_outcome_name(event[1]));
+        else
+            text_add(t, "outcome %d", event[1]);
+        break;
+    case FROSTSORREL_RECEIVE_ERROR:
+        text_add(t, "receive error %lu", wide(frostsorrel_event_value(event)));
+        break;
+    case FROSTSORREL_MODE:
+        say_mode(t, event);
+        break;
+    case FROSTSORREL_OPTIONS:
+        text_add(t, "options 0x%lX%s", wide(frostsorrel_event_value(event)),
+                 frostsorrel_event_value(event) & 3 ? ":" : "");
+        say_options(t, "", frostsorrel_event_value(event));
+        break;
+    case FROSTSORREL_START:
+    case FROSTSORREL_ELEVEN_RECESSIVE:
+    case FROSTSORREL_TICK:
+    case FROSTSORREL_RESET:
+        text_add(t, "%s", frostsorrel_operation_name(event[0]));
+        break;
+    default:
+        text_add(t, "operation %d", event[0]);
+    }
+}
+
+/* ---- answers and entries */
+
+/* Frames are heard, and sendings start, in normal mode alone, and not in bus off. */
+static const char *deaf(const uint8_t *image)
+{
+    uint32_t mode = frostsorrel_register_word(image, FROSTSORREL_WORD_MODE);
+
+    if (mode != FROSTSORREL_NORMAL)
+        return frostsorrel_mode_name(mode);
+    return frostsorrel_register_word(image, FROSTSORREL_TEC) == FROSTSORREL_BUS_OFF_TEC ? "bus off" : 0;
+}
+
+void say_answer(struct text *t, const uint8_t *before, const uint8_t *event, uint64_t answer)
+{
+    unsigned long n = frostsorrel_answer_mailbox(answer), count = (unsigned long)frostsorrel_answer_count(answer);
+    const char *why = deaf(before);
+
+    if (event[0] == FROSTSORREL_FRAME && why)
+        text_add(t, "not heard in %s", why);
+    else if (event[0] == FROSTSORREL_FRAME && n == FROSTSORREL_NO_MAILBOX)
+        text_add(t, "no mailbox takes it, %lu compared", count);
+    else if (event[0] == FROSTSORREL_FRAME)
+        text_add(t, "mailbox %lu, %lu compared", n, count);
+    else if (event[0] == FROSTSORREL_START && why)
+        text_add(t, "nothing is sent in %s", why);
+    else if (event[0] == FROSTSORREL_START && n == FROSTSORREL_NO_MAILBOX)
+        text_add(t, "no mailbox has anything to send");
+    else if (n != FROSTSORREL_NO_MAILBOX)
+        text_add(t, "mailbox %lu", n);
+}
+
+void say_made(struct text *t, const struct made *m, const uint8_t *before)
+{
+    static const char *const words[ENTRIES] = {
+        "stored: mailbox %d",
+        "released: mailbox %d, the frame of step %d",
+        "LOST: mailbox %d, the frame of step %d was overwritten unread",
+        "dropped by the reset: mailbox %d, the frame of step %d",
+        "request raised: mailbox %d",
+        "sent: mailbox %d, the request of step %d",
+        "aborted: mailbox %d, the request of step %d",
+        "dropped by sleep: mailbox %d, the request of step %d",
+        "dropped by the reset: mailbox %d, the request of step %d",
+    };
+
+    text_add(t, words[m->entry], m->mailbox, m->since);
+    if (m->entry == RELEASED && frostsorrel_register_word(before, FROSTSORREL_RML) & BIT(m->mailbox))
+        text_add(t, "; its lost flag is cleared with it");
+}
+
+/* ---- changes */
+
+int next_change(const uint8_t *before, const uint8_t *after, int from)
+{
+    while (from < WORDS && memcmp(before + 4 * from, after + 4 * from, 4) == 0)
+        from++;
+    return from;
+}
+
+static void say_numbers(struct text *t, const char *format, uint32_t old, uint32_t new)
+{
+    text_add(t, format, wide(old), wide(new));
+}
+
+/* The flags of word 0 that are not the identifier, and RTR of word 1. */
+static void say_flag(struct text *t, uint32_t old, uint32_t new, uint32_t bit, const char *name)
+{
+    if ((old ^ new) & bit)
+        text_add(t, " %c%s", new & bit ? '+' : '-', name);
+}
+
+static void say_mailbox_change(struct text *t, const uint8_t *before, const uint8_t *after, int word)
+{
+    uint32_t old = frostsorrel_word(before + 4 * word), new = frostsorrel_word(after + 4 * word);
+
+    text_add(t, "mailbox %d word %d:", word / 4, word % 4);
+    if (word % 4 == 0) {
+        if ((old ^ new) & (FROSTSORREL_IDE | FROSTSORREL_IDENTIFIER_BITS)) {
+            text_add(t, " identifier ");
+            say_identifier(t, old);
+            text_add(t, " -> ");
+            say_identifier(t, new);
+        }
+        say_flag(t, old, new, FROSTSORREL_GAME, "masked");
+        say_flag(t, old, new, FROSTSORREL_RFH, "RFH");
+    } else if (word % 4 == 1) {
+        if ((old ^ new) & FROSTSORREL_DLC_BITS)
+            say_numbers(t, " DLC %lu -> %lu", old & FROSTSORREL_DLC_BITS, new & FROSTSORREL_DLC_BITS);
+        say_flag(t, old, new, FROSTSORREL_RTR, "RTR");
+        if ((old ^ new) >> 16)
+            say_numbers(t, " time stamp %lu -> %lu", old >> 16, new >> 16);
+    } else {
+        say_data(t, before + 4 * word, 4);
+        text_add(t, " ->");
+        say_data(t, after + 4 * word, 4);
+    }
+}
+
+void say_slot(struct text *t, uint32_t slot)
+{
+    if (slot == FROSTSORREL_EMPTY_SLOT)
+        text_add(t, " empty");
+    else
+        text_add(t, " mailbox %lu", wide(slot));
+}
+
+/* The level that a counter rises to. */
+static void say_level(struct text *t, uint32_t old, uint32_t new)
+{
+    if (old < FROSTSORREL_BUS_OFF_TEC && new == FROSTSORREL_BUS_OFF_TEC)
+        text_add(t, ", bus off");
+    else if (old <= FROSTSORREL_PASSIVE_ABOVE && new > FROSTSORREL_PASSIVE_ABOVE)
+        text_add(t, ", above %d: passive", FROSTSORREL_PASSIVE_ABOVE);
+    else if (old <= FROSTSORREL_WARNING_ABOVE && new > FROSTSORREL_WARNING_ABOVE)
+        text_add(t, ", above %d: warning", FROSTSORREL_WARNING_ABOVE);
+}
+
+static void say_register_change(struct text *t, uint32_t number, uint32_t old, uint32_t new)
+{
+    text_add(t, "%s:", frostsorrel_register_name(number));
+    if (is_flag_word(number)) {
+        say_bits(t, '+', new & ~old);
+        say_bits(t, '-', old & ~new);
+    } else if (is_interrupt_word(number)) {
+        say_interrupts(t, "+", new & ~old);
+        say_interrupts(t, "-", old & ~new);
+    } else if (number == FROSTSORREL_WORD_OPTIONS) {
+        say_options(t, "+", new & ~old);
+        say_options(t, "-", old & ~new);
+    } else if (number == FROSTSORREL_WORD_MODE || number == FROSTSORREL_WORD_WAITING) {
+        text_add(t, " %s -> %s", frostsorrel_mode_name(old), frostsorrel_mode_name(new));
+    } else if (number == FROSTSORREL_WORD_SLOT) {
+        say_slot(t, old);
+        text_add(t, " ->");
+        say_slot(t, new);
+    } else if (number >= FROSTSORREL_TSC) {
+        say_numbers(t, " %lu -> %lu", old, new);
+    } else {
+        say_numbers(t, " 0x%lX -> 0x%lX", old, new);
+    }
+    if (number == FROSTSORREL_TEC || number == FROSTSORREL_REC)
+        say_level(t, old, new);
+}
+
+void say_change(struct text *t, const uint8_t *before, const uint8_t *after, int word)
+{
+    uint32_t number = (uint32_t)(word - FIRST_REGISTER);
+
+    if (word < FIRST_REGISTER)
+        say_mailbox_change(t, before, after, word);
+    else
+        say_register_change(t, number, frostsorrel_register_word(before, number),
+                            frostsorrel_register_word(after, number));
+}
+
+const char *error_state(const uint8_t *image)
+{
+    uint32_t gsr = frostsorrel_read_value(frostsorrel_read(image, FROSTSORREL_IMAGE_BYTES, FROSTSORREL_GSR));
+
+    if (gsr & FROSTSORREL_GSR_BO)
+        return "bus off";
+    if (gsr & FROSTSORREL_GSR_EP)
+        return "passive";
+    return gsr & FROSTSORREL_GSR_EW ? "warning" : "active";
+}

@@ -1,0 +1,44 @@
+/* Events, answers, refusals and changes of the image, in words for people. */
+#ifndef WORDS_H
+#define WORDS_H
+
+#include "books.h"
+#include "command.h"
+
+/* "frame 0x718 data 03 7F 11 22", "write RMP = 0x20: mailbox 5" */
+void say_event(struct text *t, const uint8_t *event);
+
+/* What an accepted step answers: "mailbox 5, 1 compared"; nothing where there is nothing to say. */
+void say_answer(struct text *t, const uint8_t *before, const uint8_t *event, uint64_t answer);
+
+/* Why this step was refused: "mailbox 5 is enabled (MC), so its word 0 is fixed". */
+void say_reason(struct text *t, const uint8_t *before, const uint8_t *event, uint32_t refusal);
+
+/* An entry in the books: "released: mailbox 5, the frame of step 14". */
+void say_made(struct text *t, const struct made *m, const uint8_t *before);
+
+/* The words of an image, counted from its first byte: four of each mailbox, then the register words. */
+enum { WORDS = FROSTSORREL_IMAGE_BYTES / 4, FIRST_REGISTER = 4 * FROSTSORREL_MAILBOXES };
+
+/* The first word from here on in which two images differ, WORDS if there is none. */
+int next_change(const uint8_t *before, const uint8_t *after, int from);
+
+/* How that word changed: "RML: +5", "mailbox 5 word 1: DLC 4 -> 3". */
+void say_change(struct text *t, const uint8_t *before, const uint8_t *after, int word);
+
+/* "0x718", "ext 0x1234567": what word 0 of a mailbox, or a frame's value, has as identifier. */
+void say_identifier(struct text *t, uint32_t word_0);
+
+/* "mailbox 5", "mailboxes 2, 5 to 7", "no mailbox": the bits of a flag word. */
+void say_mailboxes(struct text *t, uint32_t bits);
+
+/* " empty", " mailbox 2": the slot. */
+void say_slot(struct text *t, uint32_t slot);
+
+/* " 5 RMLIF": the bits of GIF or GIM by number and by the name that GIF has for them, each with a sign before it. */
+void say_interrupts(struct text *t, const char *sign, uint32_t bits);
+
+/* "active", "warning", "passive" or "bus off": where TEC and REC stand, from GSR. */
+const char *error_state(const uint8_t *image);
+
+#endif
