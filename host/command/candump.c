@@ -1,0 +1,290 @@
+/* frostsorrel candump LOG: the frames of a can-utils log, for a scenario. */
+#include <stdlib.h>
+#include <string.h>
+
+#include "scenario.h"
+
+static const char help[] =
+    "frostsorrel candump LOG\n"
+    "\n"
+    "Prints the frames of a log as the third section of a scenario, each with its time in a comment. `frostsorrel\n"
+    "make` takes it as it is, or behind the lines that you have: frostsorrel candump LOG >> SCENARIO. Lines are as\n"
+    "candump -l or -L writes them; what stands before the frame, and R or T behind it, may be missing:\n"
+    "\n"
+    "  (1700000000.123456) can0 718#037F1122      a data frame, identifier 0x718\n"
+    "  (1700000000.223456) can0 11234567#01       an identifier of eight digits is an extended one\n"
+    "  (1700000000.323456) can0 718#R4            a remote frame, DLC 4; R alone is DLC 0\n"
+    "\n"
+    "or as candump shows them: can0  718   [4]  03 7F 11 22\n"
+    "\n"
+    "What the firmware itself has sent is in such a log as well: take out what it is to send again. A model has one\n"
+    "bus, so frames of a second interface are refused; so is all that is no classic CAN frame (CAN FD, error frames),\n"
+    "and more than 1,000 frames. Each such line is named with the reason, and then nothing is printed.\n";
+
+/* What is left of a line. */
+struct rest {
+    const char *at, *end;
+};
+
+/* A run of characters that a space ends. */
+struct part {
+    const char *at;
+    size_t length;
+};
+
+static int is_space(char c)
+{
+    return c == ' ' || c == '\t' || c == '\r';
+}
+
+static struct part next_part(struct rest *r)
+{
+    struct part p;
+
+    while (r->at < r->end && is_space(*r->at))
+        r->at++;
+    p.at = r->at;
+    while (r->at < r->end && !is_space(*r->at))
+        r->at++;
+    p.length = (size_t)(r->at - p.at);
+    return p;
+}
+
+static int is(struct part p, const char *word)
+{
+    return p.length == strlen(word) && memcmp(p.at, word, p.length) == 0;
+}
+
+/* ---- a frame of a log: ID#DATA */
+
+static int digit(char c)
+{
+    static const char digits[] = "0123456789ABCDEF0123456789abcdef";
+    const char *at = memchr(digits, c, sizeof digits - 1);
+
+    return at ? (int)(at - digits) % 16 : -1;
+}
+
+static int all_digits(const char *at, size_t length)
+{
+    for (size_t i = 0; i < length; i++)
+        if (digit(at[i]) < 0)
+            return 0;
+    return 1;
+}
+
+/* The identifier in its place; answers why there is none, or 0. */
+static const char *take_identifier(uint32_t *identifier, const char *at, size_t length)
+{
+    uint32_t number = 0;
+
+    if ((length != 3 && length != 8) || !all_digits(at, length))
+        return "an identifier has three hexadecimal digits, or eight if it is extended";
+    for (size_t i = 0; i < length; i++)
+        number = 16 * number + (uint32_t)digit(at[i]);
+    if (length == 8 && number & 0x20000000)
+        return "this is an error frame, which no mailbox sees";
+    if (number > (length == 3 ? 0x7FFu : 0x1FFFFFFFu))
+        return "an identifier is at most 7FF, or 1FFFFFFF if it is extended";
+    *identifier = length == 3 ? frostsorrel_standard(number) : frostsorrel_extended(number);
+    return 0;
+}
+
+/* R, or R and the DLC. */
+static const char *take_remote(uint8_t *event, uint32_t identifier, const char *at, size_t length)
+{
+    int dlc = length == 2 ? digit(at[1]) : 0;
+
+    if (length > 2 || dlc < 0 || dlc > 8)
+        return "behind R stands a DLC of 0 to 8, or nothing";
+    frostsorrel_remote_frame(event, identifier, (uint8_t)dlc);
+    return 0;
+}
+
+static const char *take_data(uint8_t *event, uint32_t identifier, const char *at, size_t length)
+{
+    uint8_t data[8];
+
+    if (!all_digits(at, length))
+        return "data are hexadecimal digits alone";
+    if (length % 2)
+        return "the data have an odd number of digits";
+    if (length > 16)
+        return "a frame has at most eight data bytes";
+    for (size_t i = 0; i < length; i += 2)
+        data[i / 2] = (uint8_t)(16 * digit(at[i]) + digit(at[i + 1]));
+    frostsorrel_data_frame(event, identifier, (uint8_t)(length / 2), data);
+    return 0;
+}
+
+static const char fd[] = "this is a CAN FD frame; the model has classic CAN alone";
+
+/* Answers what is wrong with it, or 0. */
+static const char *take_logged(uint8_t *event, struct part frame)
+{
+    const char *sign = memchr(frame.at, '#', frame.length), *data = sign + 1, *wrong;
+    size_t left = frame.length - (size_t)(data - frame.at);
+    uint32_t identifier = 0;
+
+    if (left && *data == '#')
+        return fd;
+    wrong = take_identifier(&identifier, frame.at, (size_t)(sign - frame.at));
+    if (wrong)
+        return wrong;
+    if (left && (*data == 'R' || *data == 'r'))
+        return take_remote(event, identifier, data, left);
+    return take_data(event, identifier, data, left);
+}
+
+/* ---- a frame of the screen: ID [DLC] and its bytes, or `remote request` */
+
+static const char *take_shown(uint8_t *event, struct part frame, struct rest *rest)
+{
+    struct part dlc = next_part(rest), p = next_part(rest);
+    char digits[16];
+    size_t length = 0;
+    uint32_t identifier = 0;
+    const char *wrong = take_identifier(&identifier, frame.at, frame.length);
+
+    if (wrong)
+        return wrong;
+    if (dlc.length == 4)
+        return fd;
+    if (dlc.length != 3 || digit(dlc.at[1]) < 0 || digit(dlc.at[1]) > 8 || dlc.at[2] != ']')
+        return "between the identifier and the data stands [0] to [8]";
+    if (is(p, "remote") && is(next_part(rest), "request"))
+        return take_remote(event, identifier, dlc.at, 2);
+    for (; p.length == 2 && length < sizeof digits; p = next_part(rest), length += 2)
+        memcpy(digits + length, p.at, 2);
+    if (p.length || (int)length != 2 * digit(dlc.at[1]))
+        return "these are not as many data bytes as the brackets say, or not data bytes alone";
+    return take_data(event, identifier, digits, length);
+}
+
+/* ---- lines: (TIME) INTERFACE FRAME R|T */
+
+struct log {
+    struct lines *lines;
+    struct part interface; /* that of the first frame, of no characters before it */
+    int frames;
+};
+
+static int has_sign(struct part p)
+{
+    return p.length && memchr(p.at, '#', p.length) != 0;
+}
+
+static int shows_dlc(struct rest rest)
+{
+    struct part next = next_part(&rest);
+
+    return next.length && *next.at == '[';
+}
+
+/* The parts before the frame: a time in brackets and an interface. Either may be missing. */
+static struct part take_front(struct rest *rest, struct part *interface)
+{
+    struct part p = next_part(rest);
+
+    if (p.length && *p.at == '(')
+        p = next_part(rest);
+    interface->length = 0;
+    if (!has_sign(p)) {
+        *interface = p;
+        p = next_part(rest);
+    }
+    return p;
+}
+
+/* Answers what is wrong with the line, or 0. */
+static const char *take_line(struct log *log, uint8_t *event, struct rest rest, struct part *frame)
+{
+    struct part interface, behind;
+    const char *wrong;
+
+    *frame = take_front(&rest, &interface);
+    if (has_sign(*frame))
+        wrong = take_logged(event, *frame);
+    else if (shows_dlc(rest))
+        wrong = take_shown(event, *frame, &rest);
+    else
+        wrong = "a frame is an identifier, # and its data";
+    if (wrong)
+        return wrong;
+    behind = next_part(&rest);
+    if (is(behind, "R") || is(behind, "T"))
+        behind = next_part(&rest);
+    if (behind.length)
+        return "behind the frame stands R, T or nothing";
+    if (++log->frames > FROSTSORREL_SECTION_EVENTS)
+        return "a section takes 1,000 events";
+    if (log->frames == 1)
+        log->interface = interface;
+    if (interface.length != log->interface.length ||
+        (interface.length && memcmp(interface.at, log->interface.at, interface.length) != 0))
+        return "this is another interface than above; a model has one bus";
+    return 0;
+}
+
+static void read_line(struct log *log, struct text *scenario)
+{
+    const char *line = log->lines->line, *wrong;
+    struct rest rest = {line, line + log->lines->length}, blank = rest;
+    struct part frame;
+    struct text words = {0};
+    uint8_t event[FROSTSORREL_EVENT_BYTES];
+
+    if (next_part(&blank).length == 0)
+        return;
+    wrong = take_line(log, event, rest, &frame);
+    if (wrong) {
+        add_quoted(&words, frame.at, frame.length);
+        fault(log->lines, "found \"%s\"; %s", words.at ? words.at : "", wrong);
+        text_free(&words);
+        return;
+    }
+    write_event(&words, event);
+    if (frame.at > line) {
+        struct text comment = {0};
+
+        text_add(&comment, " ");
+        add_quoted(&comment, line, (size_t)(frame.at - line));
+        write_comment(&words, comment.at);
+        text_free(&comment);
+    }
+    text_add(scenario, "%s\n", words.at);
+    text_free(&words);
+}
+
+void read_candump(struct lines *lines, struct text *scenario)
+{
+    struct log log = {.lines = lines};
+
+    text_add(scenario, "events:\n");
+    while (next_line(lines))
+        read_line(&log, scenario);
+}
+
+int command_candump(int argc, char **argv)
+{
+    const char *path;
+    struct bytes text;
+    struct lines lines;
+    struct text scenario = {0};
+    int status;
+
+    if (asks_help(argc, argv))
+        return show_help(help);
+    path = only_file(argc, argv);
+    if (!path || read_text(path, &text) != COMMAND_DONE)
+        return COMMAND_FAILED;
+    start_lines(&lines, name_of_input(path), &text);
+    read_candump(&lines, &scenario);
+    status = tell_faults(&lines);
+    if (status == COMMAND_DONE)
+        status = text_show(&scenario, 0);
+    text_free(&scenario);
+    text_free(&lines.faults);
+    free(text.at);
+    return status;
+}

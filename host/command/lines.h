@@ -1,0 +1,38 @@
+/* A text that is read line by line, and what is wrong with its lines. */
+#ifndef LINES_H
+#define LINES_H
+
+#include "command.h"
+
+struct lines {
+    const char *name;       /* the file's, for messages */
+    const char *next, *end; /* what has not been read yet */
+    const char *line;       /* the line that was read last: `length` characters, no line feed */
+    size_t length;
+    int number;          /* that line's, from 1 */
+    struct text faults;  /* a message for each faulty line, the first ones of them */
+    int faulty, told_at; /* how many lines are faulty, and the last of them */
+};
+
+/*
+ * Reads a text, standard input for "-"; one of more than 4 MiB is refused. Answers COMMAND_DONE, or
+ * COMMAND_FAILED after a message, and then there is nothing to free.
+ */
+int read_text(const char *path, struct bytes *into);
+
+/* Starts before the first line. A mark of the byte order in front is no part of it. */
+void start_lines(struct lines *l, const char *name, const struct bytes *text);
+
+/* Goes to the next line; answers 0 where there is none. */
+int next_line(struct lines *l);
+
+/* Notes what is wrong with this line. Only its first fault counts: what follows may come of that. */
+PRINTF_LIKE(2, 3) void fault(struct lines *l, const char *format, ...);
+
+/* Adds words of a file to a message, cut short, and bytes that do not print as \xHH. */
+void add_quoted(struct text *t, const char *at, size_t length);
+
+/* Tells the faults on standard error, and that nothing was written. Answers COMMAND_DONE where there are none. */
+int tell_faults(const struct lines *l);
+
+#endif

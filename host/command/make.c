@@ -1,0 +1,142 @@
+#define _XOPEN_SOURCE 700 /* stat beside C99 */
+
+/* frostsorrel make SCENARIO [-o TRACE]: a trace made of a scenario. */
+#include <stdlib.h>
+#include <string.h>
+#include <sys/stat.h>
+
+#include "scenario.h"
+
+static const char help[] =
+    "frostsorrel make SCENARIO [-o TRACE]\n"
+    "\n"
+    "Makes a trace of a scenario. Without -o the trace of NAME.txt is NAME.trace beside it, and that of standard\n"
+    "input (-) goes to standard output; so does any with -o -. If a line is not understood nothing is written.\n"
+    "\n"
+    "A scenario is text, one event a line; # starts a comment. This is a whole one:\n"
+    "\n"
+    "  mailboxes:                              # mailbox writes alone; the model is in configuration\n"
+    "  mailbox 2 sends 0x710 dlc 3 : 02 11 11\n"
+    "  mailbox 5 receives 0x718\n"
+    "  registers:                              # register writes and options alone\n"
+    "  write BCR2 = 0x25                       # a bit timing, without which it stays in configuration\n"
+    "  enable 2 5\n"
+    "  events:                                 # anything\n"
+    "  mode normal\n"
+    "  send 2\n"
+    "  start\n"
+    "  outcome sent\n"
+    "  frame 0x718 : 03 7F 11 22\n"
+    "  release 5\n"
+    "\n"
+    "Sections come in this order; one that is left out is empty. Lines for mailboxes and registers may stand in\n"
+    "events: too. ID is 0 to 0x7FF, or `ext` and 0 to 0x1FFFFFFF; N is a mailbox; data are hexadecimal bytes:\n"
+    "\n"
+    "  mailbox N receives ID              word 0 = ID\n"
+    "  mailbox N sends ID dlc 2 : 11 22   word 0 = ID, word 1 = DLC, words 2 and 3 as far as there are data;\n"
+    "                                     `dlc` or the data may be left out\n"
+    "  mailbox N replies ID ..            the same with RFH: it answers remote frames by itself\n"
+    "  mailbox N word 0 = VALUE           any mailbox write, word 0 to 3\n"
+    "  enable N ..                        two writes: MD, a bit for each mailbox that the lines above let receive,\n"
+    "                                     and MC, a bit for each of these and of those enabled above\n"
+    "  send N ..                          write TRS, with the bits of these mailboxes alone\n"
+    "  abort N ..                         write TRR, as well\n"
+    "  release N ..                       write RMP, as well\n"
+    "  write REGISTER = VALUE             any register write, by name or number\n"
+    "  options VALUE                      1 is MTOS, 2 is WUBA\n"
+    "  frame ID : 11 22                   a data frame from the bus, at most eight bytes\n"
+    "  remote ID dlc 4                    a remote frame\n"
+    "  start                              the controller may send\n"
+    "  outcome sent | lost | error        how the sending ended\n"
+    "  receive error 1 | 8                an error seen as a receiver\n"
+    "  recessive                          eleven recessive bits\n"
+    "  tick                               of the time stamp counter\n"
+    "  mode normal | configuration | sleep | suspend\n"
+    "  reset\n"
+    "  raw 0B 00 00 ..                    any 16 bytes\n"
+    "\n"
+    "`x 3` behind a line stands for three such lines. A VALUE has at most 32 bits: decimal or 0x.., also with <<\n"
+    "and |, as in 1 << 31 | 0x20. Small and capital letters are the same.\n";
+
+static int same_file(const char *a, const char *b)
+{
+    struct stat first, second;
+
+    return stat(a, &first) == 0 && stat(b, &second) == 0 && first.st_dev == second.st_dev &&
+           first.st_ino == second.st_ino;
+}
+
+/* SCENARIO, and where the trace goes, 0 if nothing says so. Answers 0 after a message. */
+static int understand(int argc, char **argv, const char **scenario, const char **trace)
+{
+    *scenario = *trace = 0;
+    for (int i = 1; i < argc; i++) {
+        if (strcmp(argv[i], "-o") == 0) {
+            if (*trace || ++i == argc)
+                return misused("make", *trace ? "-o stands there twice" : "-o needs a file"), 0;
+            *trace = argv[i];
+        } else if (argv[i][0] == '-' && argv[i][1]) {
+            return misused("make", "no option %s", argv[i]), 0;
+        } else if (*scenario) {
+            return misused("make", "one scenario at a time: %s", argv[i]), 0;
+        } else {
+            *scenario = argv[i];
+        }
+    }
+    if (!*scenario)
+        return misused("make", "which scenario?"), 0;
+    if (*trace && strcmp(*scenario, "-") != 0 && same_file(*scenario, *trace))
+        return misused("make", "%s is the scenario: its trace needs another file", *trace), 0;
+    return 1;
+}
+
+/* NAME.trace for NAME.txt, and for NAME; - for -. */
+static void name_trace(struct text *name, const char *scenario)
+{
+    size_t length = strlen(scenario);
+
+    if (strcmp(scenario, "-") == 0) {
+        text_add(name, "-");
+        return;
+    }
+    if (length > 4 && strcmp(scenario + length - 4, ".txt") == 0)
+        length -= 4;
+    text_bytes(name, scenario, length);
+    text_add(name, ".trace");
+}
+
+static int make(const char *scenario, const char *to)
+{
+    struct bytes text;
+    struct lines lines;
+    struct text trace = {0};
+    int status;
+
+    if (read_text(scenario, &text) != COMMAND_DONE)
+        return COMMAND_FAILED;
+    start_lines(&lines, name_of_input(scenario), &text);
+    make_trace(&lines, &trace);
+    status = tell_faults(&lines);
+    if (status == COMMAND_DONE)
+        status = text_show(&trace, to);
+    text_free(&trace);
+    text_free(&lines.faults);
+    free(text.at);
+    return status;
+}
+
+int command_make(int argc, char **argv)
+{
+    struct text name = {0};
+    const char *scenario, *trace;
+    int status;
+
+    if (asks_help(argc, argv))
+        return show_help(help);
+    if (!understand(argc, argv, &scenario, &trace))
+        return COMMAND_FAILED;
+    name_trace(&name, scenario);
+    status = make(scenario, trace ? trace : name.at);
+    text_free(&name);
+    return status;
+}
