@@ -97,6 +97,7 @@ static void write_text(struct text *out, const struct run *r, const char *name)
     text_add(&p.out, "%s: ", name);
     say_sums(&p.out, r);
     text_add(&p.out, "\n");
+    text_heading(&p, "Step by step");
     tell_steps(&p, r);
     tell_mailboxes(&p, r);
     tell_losses(&p, r);

@@ -34,6 +34,9 @@ void say_sums(struct text *t, const struct run *r);
 /* The mailboxes in use: enabled at some time, or with an entry in the books. */
 uint32_t in_use(const struct run *r);
 
+/* Adds the picture of a run: an SVG for each band of steps. */
+void draw_picture(struct text *out, const struct run *r);
+
 /* Writes the whole page of a run. */
 void write_page(struct text *out, const struct run *r, const char *name);
 

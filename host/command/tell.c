@@ -160,7 +160,6 @@ void tell_steps(struct pen *p, const struct run *r)
 {
     int last;
 
-    p->heading(p, "Step by step");
     for (int first = 1; first <= r->steps; first = last + 1) {
         last = last_of_row(r, first);
         tell_row(p, r, first, last);

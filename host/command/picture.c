@@ -1,0 +1,458 @@
+/*
+ * The picture of a run, as SVG. A long run is cut into bands of steps, one below the other, each an SVG of its own, so
+ * that paper can break between them. In a band stand the steps, the mode, the refused events, a lane for each mailbox
+ * with anything to show there, and the two error counters. Every mark has a shape of its own beside its colour.
+ */
+#include "report.h"
+#include "words.h"
+
+/* Where things stand, in pixels. */
+enum {
+    LEFT = 118,        /* the names */
+    RIGHT = 1034,      /* the end of the lanes */
+    WIDTH = 1050,
+    WIDEST_STEP = 84,
+    STEPS_HEIGHT = 26, /* the numbers of the steps */
+    STRIP_HEIGHT = 24, /* the mode */
+    LANE_HEIGHT = 34,
+    COUNTER_HEIGHT = 84,
+    GAP = 12,
+    MOST_IN_BAND = 120
+};
+
+/* What a lane shows. All but the first three of these are entries of the books. */
+enum mark { START, BACK, REFUSED, MARK_STORED, MARK_LOST, MARK_RELEASED, MARK_RAISED, MARK_SENT, MARK_ABORTED, DROPPED, MARKS };
+
+static const struct {
+    const char *class, *name;
+} marks[MARKS] = {
+    {"start", "start"},
+    {"back", "not sent, waits on"},
+    {"refused", "event refused"},
+    {"store", "stored"},
+    {"lost", "stored over a held frame: LOST"},
+    {"release", "released"},
+    {"request", "request raised"},
+    {"sent", "sent"},
+    {"abort", "aborted"},
+    {"drop", "dropped by sleep or reset"},
+};
+
+static enum mark mark_of(enum entry entry)
+{
+    static const enum mark of[ENTRIES] = {MARK_STORED, MARK_RELEASED, MARK_LOST,    DROPPED, MARK_RAISED,
+                                          MARK_SENT,   MARK_ABORTED,  DROPPED, DROPPED};
+
+    return of[entry];
+}
+
+struct band {
+    const struct run *run;
+    struct text *out;
+    int first, last;   /* its steps */
+    uint32_t lanes;    /* its mailboxes */
+    double step, size; /* the width of a step, and half that of a mark */
+    double bottom;     /* how far down it is drawn already */
+};
+
+static double x_of(const struct band *b, int step)
+{
+    return LEFT + (step - b->first + 0.5) * b->step;
+}
+
+static double end_of(const struct band *b)
+{
+    return LEFT + (b->last - b->first + 1) * b->step;
+}
+
+/* ---- shapes */
+
+static void draw_shape(struct text *out, enum mark mark, double x, double y, double s)
+{
+    text_add(out, "<path class=\"%s\" d=\"", marks[mark].class);
+    switch (mark) {
+    case MARK_STORED:
+    case MARK_RELEASED: /* a disc, a ring */
+        text_add(out, "M%.1f %.1fa%.1f %.1f 0 1 0 %.1f 0a%.1f %.1f 0 1 0 %.1f 0z", x - s, y, s, s, 2 * s, s, s, -2 * s);
+        break;
+    case MARK_LOST: /* a large diamond */
+        text_add(out, "M%.1f %.1fL%.1f %.1fL%.1f %.1fL%.1f %.1fz", x - 1.5 * s, y, x, y - 1.5 * s, x + 1.5 * s, y, x,
+                 y + 1.5 * s);
+        break;
+    case MARK_RAISED: /* triangles, by where they point: up, right, left, down */
+        text_add(out, "M%.1f %.1fh%.1fL%.1f %.1fz", x - s, y + s, 2 * s, x, y - s);
+        break;
+    case START:
+        text_add(out, "M%.1f %.1fv%.1fL%.1f %.1fz", x - s, y - s, 2 * s, x + s, y);
+        break;
+    case BACK:
+        text_add(out, "M%.1f %.1fv%.1fL%.1f %.1fz", x + s, y - s, 2 * s, x - s, y);
+        break;
+    case DROPPED:
+        text_add(out, "M%.1f %.1fh%.1fL%.1f %.1fz", x - s, y - s, 2 * s, x, y + s);
+        break;
+    case MARK_SENT: /* a square */
+        text_add(out, "M%.1f %.1fh%.1fv%.1fh%.1fz", x - s, y - s, 2 * s, 2 * s, -2 * s);
+        break;
+    case MARK_ABORTED: /* a crossed square */
+        text_add(out, "M%.1f %.1fh%.1fv%.1fh%.1fzl%.1f %.1fm%.1f 0l%.1f %.1f", x - s, y - s, 2 * s, 2 * s, -2 * s, 2 * s,
+                 2 * s, -2 * s, 2 * s, -2 * s);
+        break;
+    default: /* a cross */
+        text_add(out, "M%.1f %.1fl%.1f %.1fm%.1f 0l%.1f %.1f", x - s, y - s, 2 * s, 2 * s, -2 * s, 2 * s, -2 * s);
+    }
+    text_add(out, "\"");
+}
+
+static void draw_words(struct text *out, const char *class, double x, double y, const char *words)
+{
+    text_add(out, "<text class=\"%s\" x=\"%.1f\" y=\"%.1f\">%s</text>\n", class, x, y, words);
+}
+
+/* A mark at a step, which says what it is when pointed at; a loss leads to the step in the page. */
+static void draw_mark(struct band *b, enum mark mark, int step, double y)
+{
+    int lost = mark == MARK_LOST;
+
+    text_add(b->out, lost ? "<a href=\"#s%d\">" : "", step);
+    draw_shape(b->out, mark, x_of(b, step), y, lost && b->size < 4 ? 4 : b->size);
+    text_add(b->out, "><title>step %d: %s</title></path>%s\n", step, marks[mark].name, lost ? "</a>" : "");
+    if (lost && b->step >= 32)
+        draw_words(b->out, "alarm", x_of(b, step), y - 10, "LOST");
+}
+
+static void draw_box(struct text *out, const char *class, double x, double y, double width, double height)
+{
+    text_add(out, "<rect class=\"%s\" x=\"%.1f\" y=\"%.1f\" width=\"%.1f\" height=\"%.1f\"/>\n", class, x, y, width,
+             height);
+}
+
+static void draw_line(struct text *out, const char *class, double x1, double y1, double x2, double y2)
+{
+    text_add(out, "<path class=\"%s\" d=\"M%.1f %.1fL%.1f %.1f\"/>\n", class, x1, y1, x2, y2);
+}
+
+/* ---- the steps, the mode, the refused events */
+
+/* How many steps from one number to the next, so that the numbers have room. */
+static int numbers_apart(double step)
+{
+    static const int apart[] = {1, 2, 5, 10, 20, 50};
+    int i = 0;
+
+    while (i < 5 && apart[i] * step < 30)
+        i++;
+    return apart[i];
+}
+
+static void draw_steps(struct band *b, double height)
+{
+    int apart = numbers_apart(b->step);
+    struct text number = {0};
+
+    draw_words(b->out, "name", LEFT - 10, 17, "step");
+    for (int k = b->first; k <= b->last; k++) {
+        if (k % apart != 0 && k != b->first)
+            continue;
+        if (k == b->first && k % apart != 0 && (apart - k % apart) * b->step < 30)
+            continue; /* the next number would run into it */
+        text_add(&number, "%d", k);
+        draw_line(b->out, "grid", x_of(b, k), STEPS_HEIGHT, x_of(b, k), height);
+        draw_words(b->out, "number", x_of(b, k), 17, number.at);
+        text_free(&number);
+    }
+    b->bottom = STEPS_HEIGHT;
+}
+
+/* The mode after a step; bus off stands beside the modes here. */
+static const char *mode_after(const struct run *r, int step)
+{
+    if (frostsorrel_register_word(r->image[step], FROSTSORREL_TEC) == FROSTSORREL_BUS_OFF_TEC)
+        return "bus off";
+    return frostsorrel_mode_name(frostsorrel_register_word(r->image[step], FROSTSORREL_WORD_MODE));
+}
+
+static void draw_modes(struct band *b)
+{
+    draw_words(b->out, "name", LEFT - 10, b->bottom + 16, "mode");
+    for (int k = b->first, last; k <= b->last; k = last + 1) {
+        const char *mode = mode_after(b->run, k);
+        double x = LEFT + (k - b->first) * b->step, width;
+
+        for (last = k; last < b->last && mode_after(b->run, last + 1) == mode;)
+            last++;
+        width = (last - k + 1) * b->step;
+        draw_box(b->out, mode[0] == 'n' ? "mode normal" : mode[0] == 'b' ? "mode off" : "mode other", x, b->bottom + 3,
+                 width, 18);
+        if (width > 84)
+            draw_words(b->out, "inside", x + 6, b->bottom + 16, mode);
+        else if (width > 14)
+            text_add(b->out, "<text class=\"inside\" x=\"%.1f\" y=\"%.1f\">%c</text>\n", x + 4, b->bottom + 16, mode[0]);
+    }
+    b->bottom += STRIP_HEIGHT;
+}
+
+static int is_refused(const struct run *r, int step)
+{
+    return frostsorrel_answer_refusal(r->step[step].answer) != FROSTSORREL_ACCEPTED;
+}
+
+static int has_refusals(const struct band *b)
+{
+    for (int k = b->first; k <= b->last; k++)
+        if (is_refused(b->run, k))
+            return 1;
+    return 0;
+}
+
+static void draw_refusals(struct band *b)
+{
+    draw_words(b->out, "name", LEFT - 10, b->bottom + 16, "refused");
+    for (int k = b->first; k <= b->last; k++)
+        if (is_refused(b->run, k))
+            draw_mark(b, REFUSED, k, b->bottom + STRIP_HEIGHT / 2);
+    b->bottom += STRIP_HEIGHT;
+}
+
+/* ---- the lanes */
+
+/* Is the mailbox's flag up after this step? */
+static int is_up(const struct band *b, uint32_t number, int step, int n)
+{
+    return (frostsorrel_register_word(b->run->image[step], number) >> n & 1) != 0;
+}
+
+/* A bar from the step in which the flag rises to that in which it falls. */
+static void draw_bars(struct band *b, int n, uint32_t number, const char *class, double height)
+{
+    double y = b->bottom + (LANE_HEIGHT - height) / 2, from = LEFT;
+    int up = is_up(b, number, b->first - 1, n);
+
+    for (int k = b->first; k <= b->last + 1; k++) {
+        int next = k <= b->last && is_up(b, number, k, n);
+
+        if (next && !up)
+            from = x_of(b, k);
+        if (!next && up)
+            draw_box(b->out, class, from, y, (k <= b->last ? x_of(b, k) : end_of(b)) - from, height);
+        up = next;
+    }
+}
+
+/* What goes into the slot and what comes back from it books nothing, and is drawn all the same. */
+static void draw_slot_marks(struct band *b, int n, double y)
+{
+    for (int k = b->first; k <= b->last; k++) {
+        const struct step *s = &b->run->step[k];
+
+        if (is_refused(b->run, k) || frostsorrel_answer_mailbox(s->answer) != (uint32_t)n)
+            continue;
+        if (s->event[0] == FROSTSORREL_START)
+            draw_mark(b, START, k, y);
+        if (s->event[0] == FROSTSORREL_OUTCOME && is_up(b, FROSTSORREL_TRS, k, n))
+            draw_mark(b, BACK, k, y);
+    }
+}
+
+/* A store that loses a frame has two entries: the loss is the one to show. */
+static void draw_entries(struct band *b, int n, double y)
+{
+    int last = b->run->step[b->last + 1].first_made, step = b->first;
+
+    for (int i = b->run->step[b->first].first_made; i < last; i++) {
+        while (b->run->step[step + 1].first_made <= i)
+            step++;
+        if (b->run->made[i].mailbox != n)
+            continue;
+        draw_mark(b, mark_of(b->run->made[i].entry), step, y);
+        if (b->run->made[i].entry == OVERWRITTEN)
+            i++;
+    }
+}
+
+static void draw_lane(struct band *b, int n)
+{
+    double y = b->bottom + LANE_HEIGHT / 2;
+    struct text name = {0};
+
+    text_add(&name, "mailbox %d", n);
+    draw_words(b->out, "name", LEFT - 10, y, name.at);
+    text_free(&name);
+    say_identifier(&name, frostsorrel_mailbox_word(b->run->image[b->last], (uint32_t)n, 0));
+    draw_words(b->out, "small", LEFT - 10, y + 11, name.at);
+    text_free(&name);
+    draw_line(b->out, "lane", LEFT, y, end_of(b), y);
+    draw_bars(b, n, FROSTSORREL_RMP, "held", 14);
+    draw_bars(b, n, FROSTSORREL_TRS, "waiting", 6);
+    draw_slot_marks(b, n, y);
+    draw_entries(b, n, y);
+    b->bottom += LANE_HEIGHT;
+}
+
+/* ---- the error counters */
+
+static double y_of(const struct band *b, uint32_t value)
+{
+    return b->bottom + GAP + COUNTER_HEIGHT * (1 - value / 256.0);
+}
+
+static void draw_level(struct band *b, uint32_t value, const char *name, double down)
+{
+    draw_line(b->out, "level", LEFT, y_of(b, value), end_of(b), y_of(b, value));
+    draw_words(b->out, "small", LEFT - 10, y_of(b, value) + down, name);
+}
+
+/* From step to step the line is level, and rises or falls at the step. */
+static void draw_counter(struct band *b, uint32_t number, const char *class)
+{
+    uint32_t value = frostsorrel_register_word(b->run->image[b->first - 1], number);
+
+    text_add(b->out, "<path class=\"%s\" d=\"M%d %.1f", class, LEFT, y_of(b, value));
+    for (int k = b->first; k <= b->last; k++) {
+        uint32_t next = frostsorrel_register_word(b->run->image[k], number);
+
+        if (next != value)
+            text_add(b->out, "H%.1fV%.1f", x_of(b, k), y_of(b, next));
+        value = next;
+    }
+    text_add(b->out, "H%.1f\"/>\n", end_of(b));
+}
+
+static void draw_counters(struct band *b)
+{
+    draw_level(b, FROSTSORREL_BUS_OFF_TEC, "bus off 256", 4);
+    draw_level(b, FROSTSORREL_PASSIVE_ABOVE, "passive above 127", 1);
+    draw_level(b, FROSTSORREL_WARNING_ABOVE, "warning above 96", 7);
+    draw_line(b->out, "lane", LEFT, y_of(b, 0), end_of(b), y_of(b, 0));
+    draw_words(b->out, "small", LEFT - 10, y_of(b, 0) + 3, "TEC, REC 0");
+    draw_counter(b, FROSTSORREL_TEC, "tec");
+    draw_counter(b, FROSTSORREL_REC, "rec"); /* dashed, so that both show where they are equal */
+    b->bottom += GAP + COUNTER_HEIGHT + GAP;
+}
+
+/* ---- the legend */
+
+static const char style[] =
+    "<style>"
+    "text{font-family:'DejaVu Sans',Verdana,Helvetica,Arial,sans-serif;fill:#1c2733}"
+    ".name{font-size:12px;text-anchor:end}.small{font-size:9.5px;text-anchor:end;fill:#566270}"
+    ".number{font-size:11px;text-anchor:middle;fill:#566270}.inside{font-size:11px}.key{font-size:11.5px}"
+    ".alarm{font-size:9px;font-weight:bold;text-anchor:middle;fill:#b02700}"
+    ".ground{fill:#fff}.grid{stroke:#e3e8ed;stroke-width:1}.lane{stroke:#a9b4bf;stroke-width:1}"
+    ".mode{stroke:#a9b4bf;stroke-width:1}.normal{fill:#fff}.other{fill:#e3e8ed}.off{fill:#f7cfb5}"
+    ".held{fill:#bfdcf0;stroke:#0072b2;stroke-width:.8}.waiting{fill:#c5e8dc;stroke:#009e73;stroke-width:.8}"
+    ".store{fill:#0072b2}.release{fill:#fff;stroke:#0072b2;stroke-width:1.8}"
+    ".lost{fill:#d12f00;stroke:#fff;stroke-width:1}"
+    ".request{fill:#fff;stroke:#00785a;stroke-width:1.6}.start,.sent{fill:#00785a}"
+    ".back{fill:#fff;stroke:#00785a;stroke-width:1.6}.abort{fill:#fff;stroke:#8a4f00;stroke-width:1.6}"
+    ".drop{fill:#fff;stroke:#566270;stroke-width:1.6}.refused{fill:none;stroke:#8a4f00;stroke-width:2.2}"
+    ".level{stroke:#8a95a1;stroke-width:1;stroke-dasharray:2 4;fill:none}"
+    ".tec{stroke:#1c2733;stroke-width:2;fill:none}.rec{stroke:#cc5a9b;stroke-width:2;fill:none;stroke-dasharray:7 4}"
+    "</style>\n";
+
+/* The sample of a legend's entry: a mark, a bar or a line. */
+static void draw_sample(struct text *out, int i, double x, double y)
+{
+    if (i < MARKS) {
+        draw_shape(out, (enum mark)i, x + 11, y, i == MARK_LOST ? 5 : 5.5);
+        text_add(out, "/>\n");
+    } else if (i < MARKS + 2) {
+        draw_box(out, i == MARKS ? "held" : "waiting", x, i == MARKS ? y - 6 : y - 3, 22, i == MARKS ? 12 : 6);
+    } else {
+        draw_line(out, i == MARKS + 2 ? "tec" : "rec", x, y, x + 22, y);
+    }
+}
+
+enum { KEYS = MARKS + 4, KEYS_IN_ROW = 5, KEY_HEIGHT = 22 };
+
+static const char *name_of_key(int i)
+{
+    static const char *const others[] = {"a frame is held", "a request waits", "TEC", "REC"};
+
+    return i < MARKS ? marks[i].name : others[i - MARKS];
+}
+
+static void draw_legend(struct band *b)
+{
+    static const int order[KEYS] = {MARK_STORED, MARK_RELEASED, MARK_LOST, MARKS,     DROPPED,
+                                    MARK_RAISED, START,         MARK_SENT, MARKS + 1, BACK,
+                                    MARK_ABORTED, REFUSED,      MARKS + 2, MARKS + 3};
+    static const int columns[KEYS_IN_ROW] = {LEFT, LEFT + 160, LEFT + 300, LEFT + 540, LEFT + 700};
+
+    for (int i = 0; i < KEYS; i++) {
+        double x = columns[i % KEYS_IN_ROW], y = b->bottom + GAP + i / KEYS_IN_ROW * KEY_HEIGHT;
+
+        draw_sample(b->out, order[i], x, y);
+        draw_words(b->out, "key", x + 30, y + 4, name_of_key(order[i]));
+    }
+    b->bottom += GAP + (KEYS + KEYS_IN_ROW - 1) / KEYS_IN_ROW * KEY_HEIGHT;
+}
+
+/* ---- bands */
+
+/* The mailboxes that have an entry in this band, or hold something as it begins. */
+static uint32_t lanes_of(const struct run *r, int first, int last)
+{
+    uint32_t lanes = frostsorrel_register_word(r->image[first - 1], FROSTSORREL_RMP) |
+                     frostsorrel_register_word(r->image[first - 1], FROSTSORREL_TRS);
+
+    for (int i = r->step[first].first_made; i < r->step[last + 1].first_made; i++)
+        lanes |= BIT(r->made[i].mailbox);
+    return lanes;
+}
+
+static int count_of(uint32_t bits)
+{
+    int count = 0;
+
+    for (; bits; bits &= bits - 1)
+        count++;
+    return count;
+}
+
+static void draw_band(struct text *out, const struct run *r, int first, int last, int with_legend)
+{
+    struct band b = {r, out, first, last, lanes_of(r, first, last), (double)(RIGHT - LEFT) / (last - first + 1), 0, 0};
+    int refused = has_refusals(&b);
+    double lanes_end = STEPS_HEIGHT + STRIP_HEIGHT * (1 + refused) + LANE_HEIGHT * count_of(b.lanes);
+    double height = lanes_end + GAP + COUNTER_HEIGHT + GAP + (with_legend ? GAP + 3 * KEY_HEIGHT : 0);
+
+    if (b.step > WIDEST_STEP)
+        b.step = WIDEST_STEP;
+    b.size = b.step > 18 ? 6 : b.step / 3 < 2.5 ? 2.5 : b.step / 3;
+    text_add(out, "<svg xmlns=\"http://www.w3.org/2000/svg\" viewBox=\"0 0 %d %.0f\" width=\"%d\" height=\"%.0f\" "
+                  "role=\"img\" aria-label=\"Steps %d to %d\">\n", WIDTH, height, WIDTH, height, first, last);
+    if (with_legend)
+        text_add(out, "%s", style);
+    draw_box(out, "ground", 0, 0, WIDTH, height);
+    draw_steps(&b, lanes_end);
+    draw_modes(&b);
+    if (refused)
+        draw_refusals(&b);
+    for (int n = 0; n < FROSTSORREL_MAILBOXES; n++)
+        if (b.lanes & BIT(n))
+            draw_lane(&b, n);
+    draw_counters(&b);
+    if (with_legend)
+        draw_legend(&b);
+    text_add(out, "</svg>\n");
+}
+
+/* Setting up is left out: the picture begins with the third section, or before it with the first thing to show. */
+static int first_to_show(const struct run *r)
+{
+    int start = r->trace.section[0].count + r->trace.section[1].count + 1, step = 1;
+
+    while (step < start && !is_refused(r, step) && r->step[step + 1].first_made == 0)
+        step++;
+    return step;
+}
+
+void draw_picture(struct text *out, const struct run *r)
+{
+    int first = first_to_show(r), steps = r->steps - first + 1;
+    int bands = (steps + MOST_IN_BAND - 1) / MOST_IN_BAND;
+
+    for (int i = 0; i < bands; i++)
+        draw_band(out, r, first + (int)((long)steps * i / bands), first + (int)((long)steps * (i + 1) / bands) - 1, i == 0);
+}
