@@ -165,7 +165,8 @@ static const char *take_shown(uint8_t *event, struct part frame, struct rest *re
 
 struct log {
     struct lines *lines;
-    struct part interface; /* that of the first frame, of no characters before it */
+    struct part time, interface, frame; /* of this line; of no characters where they are missing */
+    struct part bus;                    /* the interface of the first frame */
     int frames;
 };
 
@@ -181,79 +182,91 @@ static int shows_dlc(struct rest rest)
     return next.length && *next.at == '[';
 }
 
-/* The parts before the frame: a time in brackets and an interface. Either may be missing. */
-static struct part take_front(struct rest *rest, struct part *interface)
+static void take_front(struct log *log, struct rest *rest)
+{
+    static const struct part missing;
+    struct part p = next_part(rest);
+
+    log->time = log->interface = missing;
+    if (p.length && *p.at == '(') {
+        log->time = p;
+        p = next_part(rest);
+    }
+    if (!has_sign(p)) {
+        log->interface = p;
+        p = next_part(rest);
+    }
+    log->frame = p;
+}
+
+/* Nothing but a direction stands behind the frame, and all frames are of one bus. Answers what is wrong, or 0. */
+static const char *take_end(struct log *log, struct rest *rest)
 {
     struct part p = next_part(rest);
 
-    if (p.length && *p.at == '(')
+    if (is(p, "R") || is(p, "T"))
         p = next_part(rest);
-    interface->length = 0;
-    if (!has_sign(p)) {
-        *interface = p;
-        p = next_part(rest);
-    }
-    return p;
-}
-
-/* Answers what is wrong with the line, or 0. */
-static const char *take_line(struct log *log, uint8_t *event, struct rest rest, struct part *frame)
-{
-    struct part interface, behind;
-    const char *wrong;
-
-    *frame = take_front(&rest, &interface);
-    if (has_sign(*frame))
-        wrong = take_logged(event, *frame);
-    else if (shows_dlc(rest))
-        wrong = take_shown(event, *frame, &rest);
-    else
-        wrong = "a frame is an identifier, # and its data";
-    if (wrong)
-        return wrong;
-    behind = next_part(&rest);
-    if (is(behind, "R") || is(behind, "T"))
-        behind = next_part(&rest);
-    if (behind.length)
+    if (p.length)
         return "behind the frame stands R, T or nothing";
     if (++log->frames > FROSTSORREL_SECTION_EVENTS)
         return "a section takes 1,000 events";
     if (log->frames == 1)
-        log->interface = interface;
-    if (interface.length != log->interface.length ||
-        (interface.length && memcmp(interface.at, log->interface.at, interface.length) != 0))
+        log->bus = log->interface;
+    if (log->interface.length != log->bus.length ||
+        (log->bus.length && memcmp(log->interface.at, log->bus.at, log->bus.length) != 0))
         return "this is another interface than above; a model has one bus";
     return 0;
 }
 
+static const char *take_line(struct log *log, uint8_t *event, struct rest rest)
+{
+    const char *wrong = "a frame is an identifier, # and its data";
+
+    take_front(log, &rest);
+    if (has_sign(log->frame))
+        wrong = take_logged(event, log->frame);
+    else if (shows_dlc(rest))
+        wrong = take_shown(event, log->frame, &rest);
+    return wrong ? wrong : take_end(log, &rest);
+}
+
+static void add_part(struct text *t, struct part p)
+{
+    text_add(t, p.length ? " " : "");
+    add_quoted(t, p.at, p.length);
+}
+
+static void write_line(struct text *scenario, const struct log *log, const uint8_t *event)
+{
+    struct text line = {0}, comment = {0};
+
+    write_event(&line, event);
+    add_part(&comment, log->time);
+    add_part(&comment, log->interface);
+    if (comment.length)
+        write_comment(&line, comment.at);
+    text_add(scenario, "%s\n", line.at);
+    text_free(&line);
+    text_free(&comment);
+}
+
 static void read_line(struct log *log, struct text *scenario)
 {
-    const char *line = log->lines->line, *wrong;
-    struct rest rest = {line, line + log->lines->length}, blank = rest;
-    struct part frame;
-    struct text words = {0};
+    struct rest rest = {log->lines->line, log->lines->line + log->lines->length}, blank = rest;
     uint8_t event[FROSTSORREL_EVENT_BYTES];
+    struct text line = {0};
+    const char *wrong;
 
     if (next_part(&blank).length == 0)
         return;
-    wrong = take_line(log, event, rest, &frame);
+    wrong = take_line(log, event, rest);
     if (wrong) {
-        add_quoted(&words, frame.at, frame.length);
-        fault(log->lines, "found \"%s\"; %s", words.at ? words.at : "", wrong);
-        text_free(&words);
-        return;
+        add_quoted(&line, rest.at, log->lines->length);
+        fault(log->lines, "found \"%s\"; %s", line.at, wrong);
+        text_free(&line);
+    } else {
+        write_line(scenario, log, event);
     }
-    write_event(&words, event);
-    if (frame.at > line) {
-        struct text comment = {0};
-
-        text_add(&comment, " ");
-        add_quoted(&comment, line, (size_t)(frame.at - line));
-        write_comment(&words, comment.at);
-        text_free(&comment);
-    }
-    text_add(scenario, "%s\n", words.at);
-    text_free(&words);
 }
 
 void read_candump(struct lines *lines, struct text *scenario)

@@ -8,32 +8,31 @@ static const char head[] =
     "<html lang=\"en\">\n<head>\n<meta charset=\"utf-8\">\n"
     "<meta name=\"viewport\" content=\"width=device-width, initial-scale=1\">\n"
     "<style>\n"
-    "body{font:15px/1.5 'DejaVu Sans',Verdana,Helvetica,Arial,sans-serif;color:#1c2733;max-width:1060px;"
-    "margin:2rem auto;padding:0 1.25rem}\n"
-    "h1{font-size:1.5rem;margin:0 0 .5rem;overflow-wrap:anywhere}h2{font-size:1.1rem;margin:2rem 0 .5rem;"
-    "border-bottom:1px solid #d5dce3;padding-bottom:.25rem}\n"
+    "html{font:15px/1.5 'DejaVu Sans',Verdana,Helvetica,Arial,sans-serif;color:#1c2733}\n"
+    "body{max-width:1060px;margin:2rem auto;padding:0 1.25rem}\n"
+    "h1{font-size:1.5rem;margin:0 0 .4rem;overflow-wrap:anywhere}\n"
+    "h2{font-size:1.1rem;margin:2rem 0 .5rem;border-bottom:1px solid #d5dce3;padding-bottom:.25rem}\n"
     "p{margin:.25rem 0}svg{display:block;width:100%;height:auto;margin:.5rem 0 1rem}\n"
-    ".sums{font-size:1.05rem;color:#566270}\n"
+    ".sums{font-size:1.05rem}\n"
     ".loss{color:#b02700;font-weight:bold}.loss::before{content:'\\25C6\\00A0'}\n"
     ".refusal{color:#7a4600}.refusal::before{content:'\\00D7\\00A0'}\n"
-    ".nothing,.changed{color:#566270}\n"
+    ".nothing,.changed,.answer{color:#566270}\n"
     "table{border-collapse:collapse;width:100%;margin:.5rem 0 1rem}\n"
     "th{text-align:left;font-size:.85rem;color:#566270;border-bottom:2px solid #a9b4bf;padding:.25rem .6rem}\n"
     "td{vertical-align:top;border-bottom:1px solid #e3e8ed;padding:.3rem .6rem;font-variant-numeric:tabular-nums}\n"
-    ".books{table-layout:fixed}.books th:first-child{width:24%}.books th:last-child{width:25%}\n"
+    ".books{table-layout:fixed}.books th:first-child{width:24%}.books th:last-child{width:23%}\n"
     ".books th:nth-child(n+2):nth-child(-n+6),.books td:nth-child(n+2):nth-child(-n+6){text-align:right}\n"
     ".steps td:first-child{text-align:right;color:#566270;white-space:nowrap}\n"
     ".steps td:nth-child(2){width:38%;font-size:.93rem}.steps td:nth-child(3){font-size:.87rem}\n"
     ".steps tr:has(.loss){background:#fdeee8}.steps tr:has(.loss) td:first-child{box-shadow:inset 4px 0 #d12f00}\n"
-    ".steps tr:has(.refusal){background:#faf4e8}.steps tr:has(.refusal) td:first-child{box-shadow:inset 4px 0 #b57a1a}\n"
+    ".steps tr:has(.refusal){background:#faf4e8}.steps tr:has(.refusal) td:first-child"
+    "{box-shadow:inset 4px 0 #b57a1a}\n"
     ".detail{display:flex;justify-content:space-between;gap:1rem}\n"
-    ".answer{color:#566270}.numbers{font-family:'DejaVu Sans Mono',Consolas,monospace;font-size:.78rem;"
-    "color:#7a8591;white-space:nowrap}\n"
+    ".numbers{font-family:'DejaVu Sans Mono',Consolas,monospace;font-size:.78rem;color:#66717d;white-space:nowrap}\n"
     "footer{margin-top:2rem;font-size:.85rem;color:#566270}\n"
-    "@page{size:A4;margin:14mm}\n"
-    "@media print{body{font-size:9.5pt;margin:0;max-width:none;padding:0}svg,tr,p{break-inside:avoid}"
-    "h2{break-after:avoid}thead{display:table-header-group}\n"
-    ".steps tr:has(.loss),.steps tr:has(.refusal){print-color-adjust:exact;-webkit-print-color-adjust:exact}}\n"
+    "@page{size:landscape;margin:12mm}\n"
+    "@media print{html{font-size:12.5px}body{margin:0;max-width:none;padding:0}svg,tr,p{break-inside:avoid}"
+    "h2{break-after:avoid}.books{break-inside:avoid}*{print-color-adjust:exact;-webkit-print-color-adjust:exact}}\n"
     "</style>\n";
 
 /* ---- the pen */
@@ -127,22 +126,22 @@ static void write_head(struct text *out, const struct run *r, const char *name)
     add_element(out, "title", "", name);
     text_add(out, "\n</head>\n<body>\n");
     add_element(out, "h1", "", name);
-    add_element(out, "p", "sums", sums.at);
+    add_element(out, "p", has_losses(r) ? "sums loss" : "sums", sums.at);
     text_add(out, "\n");
     text_free(&sums);
 }
 
-/* What she signs for comes first, the single steps last. */
+/* What an officer signs for comes first, the single steps last. */
 void write_page(struct text *out, const struct run *r, const char *name)
 {
     struct pen p = {{0}, 0, html_heading, html_line, html_row, html_step, html_detail, html_step_done};
 
     write_head(&p.out, r, name);
-    tell_losses(&p, r);
     html_heading(&p, "The run");
     draw_picture(&p.out, r);
-    tell_mailboxes(&p, r);
+    tell_losses(&p, r);
     tell_refusals(&p, r);
+    tell_mailboxes(&p, r);
     tell_state(&p, r);
     html_heading(&p, "Step by step");
     text_add(&p.out, "<table class=\"steps\">\n<thead><tr><th>Step</th><th>Event</th><th>What it did</th></tr></thead>\n");

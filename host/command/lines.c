@@ -5,7 +5,7 @@
 #include <stdlib.h>
 #include <string.h>
 
-enum { LONGEST_TEXT = 4 << 20, LONGEST_QUOTED = 40, MOST_TOLD = 20 };
+enum { LONGEST_TEXT = 4 << 20, LONGEST_QUOTED = 60, MOST_TOLD = 20 };
 
 int read_text(const char *path, struct bytes *into)
 {
@@ -73,6 +73,7 @@ int tell_faults(const struct lines *l)
     if (!l->faulty)
         return COMMAND_DONE;
     fputs(l->faults.at, stderr);
-    complain("%s: %d %s, nothing was written", l->name, l->faulty, l->faulty == 1 ? "fault" : "faults");
+    complain("%s: %d %s%s, nothing was written", l->name, l->faulty, l->faulty == 1 ? "fault" : "faults",
+             l->faulty > MOST_TOLD ? ", the first of them above" : "");
     return COMMAND_FAILED;
 }

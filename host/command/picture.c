@@ -8,7 +8,8 @@
 
 /* Where things stand, in pixels. */
 enum {
-    LEFT = 118,        /* the names */
+    LEFT = 124,        /* the names */
+    NAMES = LEFT - 14, /* they end here */
     RIGHT = 1034,      /* the end of the lanes */
     WIDTH = 1050,
     WIDEST_STEP = 84,
@@ -150,7 +151,7 @@ static void draw_steps(struct band *b, double height)
     int apart = numbers_apart(b->step);
     struct text number = {0};
 
-    draw_words(b->out, "name", LEFT - 10, 17, "step");
+    draw_words(b->out, "name", NAMES, 17, "step");
     for (int k = b->first; k <= b->last; k++) {
         if (k % apart != 0 && k != b->first)
             continue;
@@ -174,7 +175,7 @@ static const char *mode_after(const struct run *r, int step)
 
 static void draw_modes(struct band *b)
 {
-    draw_words(b->out, "name", LEFT - 10, b->bottom + 16, "mode");
+    draw_words(b->out, "name", NAMES, b->bottom + 16, "mode");
     for (int k = b->first, last; k <= b->last; k = last + 1) {
         const char *mode = mode_after(b->run, k);
         double x = LEFT + (k - b->first) * b->step, width;
@@ -207,7 +208,7 @@ static int has_refusals(const struct band *b)
 
 static void draw_refusals(struct band *b)
 {
-    draw_words(b->out, "name", LEFT - 10, b->bottom + 16, "refused");
+    draw_words(b->out, "name", NAMES, b->bottom + 16, "refused");
     for (int k = b->first; k <= b->last; k++)
         if (is_refused(b->run, k))
             draw_mark(b, REFUSED, k, b->bottom + STRIP_HEIGHT / 2);
@@ -276,10 +277,10 @@ static void draw_lane(struct band *b, int n)
     struct text name = {0};
 
     text_add(&name, "mailbox %d", n);
-    draw_words(b->out, "name", LEFT - 10, y, name.at);
+    draw_words(b->out, "name", NAMES, y, name.at);
     text_free(&name);
     say_identifier(&name, frostsorrel_mailbox_word(b->run->image[b->last], (uint32_t)n, 0));
-    draw_words(b->out, "small", LEFT - 10, y + 11, name.at);
+    draw_words(b->out, "small", NAMES, y + 11, name.at);
     text_free(&name);
     draw_line(b->out, "lane", LEFT, y, end_of(b), y);
     draw_bars(b, n, FROSTSORREL_RMP, "held", 14);
@@ -299,7 +300,7 @@ static double y_of(const struct band *b, uint32_t value)
 static void draw_level(struct band *b, uint32_t value, const char *name, double down)
 {
     draw_line(b->out, "level", LEFT, y_of(b, value), end_of(b), y_of(b, value));
-    draw_words(b->out, "small", LEFT - 10, y_of(b, value) + down, name);
+    draw_words(b->out, "small", NAMES, y_of(b, value) + down, name);
 }
 
 /* From step to step the line is level, and rises or falls at the step. */
@@ -324,7 +325,7 @@ static void draw_counters(struct band *b)
     draw_level(b, FROSTSORREL_PASSIVE_ABOVE, "passive above 127", 1);
     draw_level(b, FROSTSORREL_WARNING_ABOVE, "warning above 96", 7);
     draw_line(b->out, "lane", LEFT, y_of(b, 0), end_of(b), y_of(b, 0));
-    draw_words(b->out, "small", LEFT - 10, y_of(b, 0) + 3, "TEC, REC 0");
+    draw_words(b->out, "small", NAMES, y_of(b, 0) + 3, "TEC, REC 0");
     draw_counter(b, FROSTSORREL_TEC, "tec");
     draw_counter(b, FROSTSORREL_REC, "rec"); /* dashed, so that both show where they are equal */
     b->bottom += GAP + COUNTER_HEIGHT + GAP;
@@ -363,7 +364,7 @@ static void draw_sample(struct text *out, int i, double x, double y)
     }
 }
 
-enum { KEYS = MARKS + 4, KEYS_IN_ROW = 5, KEY_HEIGHT = 22 };
+enum { KEYS = MARKS + 4, KEYS_IN_ROW = 5, KEY_HEIGHT = 22, LEGEND_HEIGHT = (KEYS + KEYS_IN_ROW - 1) / KEYS_IN_ROW * KEY_HEIGHT };
 
 static const char *name_of_key(int i)
 {
@@ -385,7 +386,6 @@ static void draw_legend(struct band *b)
         draw_sample(b->out, order[i], x, y);
         draw_words(b->out, "key", x + 30, y + 4, name_of_key(order[i]));
     }
-    b->bottom += GAP + (KEYS + KEYS_IN_ROW - 1) / KEYS_IN_ROW * KEY_HEIGHT;
 }
 
 /* ---- bands */
@@ -410,19 +410,30 @@ static int count_of(uint32_t bits)
     return count;
 }
 
-static void draw_band(struct text *out, const struct run *r, int first, int last, int with_legend)
+/* Are both counters 0 from end to end? */
+static int has_no_errors(const struct run *r, int first, int last)
+{
+    for (int k = first - 1; k <= last; k++)
+        if (frostsorrel_register_word(r->image[k], FROSTSORREL_TEC) ||
+            frostsorrel_register_word(r->image[k], FROSTSORREL_REC))
+            return 0;
+    return 1;
+}
+
+/* The first band has the legend, and always the counters; a later one has them if there is anything to see in it. */
+static void draw_band(struct text *out, const struct run *r, int first, int last, int is_first)
 {
     struct band b = {r, out, first, last, lanes_of(r, first, last), (double)(RIGHT - LEFT) / (last - first + 1), 0, 0};
-    int refused = has_refusals(&b);
+    int refused = has_refusals(&b), counters = is_first || b.lanes || !has_no_errors(r, first, last);
     double lanes_end = STEPS_HEIGHT + STRIP_HEIGHT * (1 + refused) + LANE_HEIGHT * count_of(b.lanes);
-    double height = lanes_end + GAP + COUNTER_HEIGHT + GAP + (with_legend ? GAP + 3 * KEY_HEIGHT : 0);
+    double height = lanes_end + (counters ? GAP + COUNTER_HEIGHT + GAP : 0) + (is_first ? GAP + LEGEND_HEIGHT : 0);
 
     if (b.step > WIDEST_STEP)
         b.step = WIDEST_STEP;
     b.size = b.step > 18 ? 6 : b.step / 3 < 2.5 ? 2.5 : b.step / 3;
     text_add(out, "<svg xmlns=\"http://www.w3.org/2000/svg\" viewBox=\"0 0 %d %.0f\" width=\"%d\" height=\"%.0f\" "
                   "role=\"img\" aria-label=\"Steps %d to %d\">\n", WIDTH, height, WIDTH, height, first, last);
-    if (with_legend)
+    if (is_first)
         text_add(out, "%s", style);
     draw_box(out, "ground", 0, 0, WIDTH, height);
     draw_steps(&b, lanes_end);
@@ -432,8 +443,9 @@ static void draw_band(struct text *out, const struct run *r, int first, int last
     for (int n = 0; n < FROSTSORREL_MAILBOXES; n++)
         if (b.lanes & BIT(n))
             draw_lane(&b, n);
-    draw_counters(&b);
-    if (with_legend)
+    if (counters)
+        draw_counters(&b);
+    if (is_first)
         draw_legend(&b);
     text_add(out, "</svg>\n");
 }

@@ -93,10 +93,13 @@ static void text_step_done(struct pen *p)
 static void write_text(struct text *out, const struct run *r, const char *name)
 {
     struct pen p = {{0}, wants_colour(), text_heading, text_line, text_row, text_step, text_detail, text_step_done};
+    struct text sums = {0};
 
+    say_sums(&sums, r);
     text_add(&p.out, "%s: ", name);
-    say_sums(&p.out, r);
+    put_coloured(&p, has_losses(r) ? colour_of(LOSS) : "", sums.at);
     text_add(&p.out, "\n");
+    text_free(&sums);
     text_heading(&p, "Step by step");
     tell_steps(&p, r);
     tell_mailboxes(&p, r);

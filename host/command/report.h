@@ -31,6 +31,9 @@ void tell_state(struct pen *p, const struct run *r);
 /* "19 steps, 1 frame lost, 1 event refused" */
 void say_sums(struct text *t, const struct run *r);
 
+/* Was a frame overwritten? */
+int has_losses(const struct run *r);
+
 /* The mailboxes in use: enabled at some time, or with an entry in the books. */
 uint32_t in_use(const struct run *r);
 

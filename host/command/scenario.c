@@ -219,7 +219,7 @@ static uint32_t take_value(struct reader *r, const char *what, uint32_t most)
 
 static uint32_t take_word_value(struct reader *r)
 {
-    return take_value(r, "a value, 0 to 0xFFFFFFFF", UINT32_MAX);
+    return take_value(r, "a value, 0 to 0xFFFFFFFF, as 8 or 0x8", UINT32_MAX);
 }
 
 static uint8_t take_mailbox(struct reader *r)
@@ -523,6 +523,10 @@ static void read_heading(struct reader *r)
 {
     int section = r->section < 0 ? 0 : r->section;
 
+    for (int earlier = 0; earlier < section; earlier++)
+        if (stands(r, headings[earlier].word))
+            fault(r->lines, "found \"%s\", but \"%s\" has begun; the order is mailboxes, registers, events",
+                  headings[earlier].whole, headings[section].whole);
     while (section < SECTIONS && !stands(r, headings[section].word))
         expect(r, headings[section++].whole, 1);
     if (section == SECTIONS) {

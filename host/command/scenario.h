@@ -1,6 +1,6 @@
 /* The scenario language: a trace as a text that people write. `frostsorrel make --help` describes it. */
-#ifndef SCENARIO_H
-#define SCENARIO_H
+#ifndef COMMAND_SCENARIO_H
+#define COMMAND_SCENARIO_H
 
 #include "lines.h"
 #include "trace.h"

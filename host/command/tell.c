@@ -29,6 +29,11 @@ static int sum_of(const struct run *r, enum entry entry)
     return sum;
 }
 
+int has_losses(const struct run *r)
+{
+    return sum_of(r, OVERWRITTEN) > 0;
+}
+
 static void say_count(struct text *t, int count, const char *thing, const char *what)
 {
     text_add(t, count ? "%d " : "no ", count);
@@ -307,7 +312,7 @@ static void tell_loss(struct pen *p, const struct run *r, int step, const struct
 void tell_losses(struct pen *p, const struct run *r)
 {
     p->heading(p, "Losses");
-    if (sum_of(r, OVERWRITTEN) == 0)
+    if (!has_losses(r))
         p->line(p, NOTHING, "No frame was lost.");
     for (int k = 1; k <= r->steps; k++)
         for (int i = r->step[k].first_made; i < r->step[k + 1].first_made; i++)

@@ -91,7 +91,7 @@ static void write_known(struct text *t, const uint8_t *event)
 
     switch (event[0]) {
     case FROSTSORREL_WRITE_REGISTER: write_register(t, event[1], value); break;
-    case FROSTSORREL_WRITE_MAILBOX: text_add(t, "mailbox %d word %d = 0x%lX", event[1], event[2], wide(value)); break;
+    case FROSTSORREL_WRITE_MAILBOX: text_add(t, "mailbox %d word %d = 0x%08lX", event[1], event[2], wide(value)); break;
     case FROSTSORREL_FRAME: write_frame(t, event); break;
     case FROSTSORREL_START: text_add(t, "start"); break;
     case FROSTSORREL_OUTCOME: text_add(t, "outcome %s", outcomes[event[1]]); break;
@@ -136,7 +136,7 @@ static int run_length(const uint8_t *event, int left)
     return count;
 }
 
-/* What a write means: what its words have behind the colon. */
+/* What the value of a write means: what its words have behind the colon. */
 static void write_meaning(struct text *line, const uint8_t *event)
 {
     struct text words = {0};
@@ -144,7 +144,7 @@ static void write_meaning(struct text *line, const uint8_t *event)
 
     say_event(&words, event);
     colon = strchr(words.at, ':');
-    if (event[0] <= FROSTSORREL_WRITE_MAILBOX && colon)
+    if (strchr(line->at, '=') && colon)
         write_comment(line, colon + 1);
     text_free(&words);
 }

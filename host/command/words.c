@@ -49,9 +49,13 @@ static void say_bits(struct text *t, char sign, uint32_t bits)
 
 void say_interrupts(struct text *t, const char *sign, uint32_t bits)
 {
+    const char *between = "";
+
     for (int n = 0; n < 8; n++)
-        if (bits & BIT(n))
-            text_add(t, " %s%d %s", sign, n, frostsorrel_gif_name((uint32_t)n));
+        if (bits & BIT(n)) {
+            text_add(t, "%s %s%d %s", between, sign, n, frostsorrel_gif_name((uint32_t)n));
+            between = *sign ? "" : ",";
+        }
 }
 
 static void say_options(struct text *t, const char *sign, uint32_t value)
@@ -100,7 +104,7 @@ static void say_register_write(struct text *t, const uint8_t *event)
     if (is_flag_word(number)) {
         text_add(t, ": ");
         say_mailboxes(t, value);
-    } else if (is_interrupt_word(number) && value) {
+    } else if (is_interrupt_word(number) && value & 0xFF) {
         text_add(t, ":");
         say_interrupts(t, "", value);
     } else if (number == FROSTSORREL_BCR2) {
