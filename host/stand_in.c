@@ -1,0 +1,35 @@
+/*
+ * The calls of frostsorrel.h, made by the reference: for tests that run on the machine's own processor, under
+ * the compiler's sanitizers. The archive is x86-64 code, and is not what they look at.
+ */
+#include <string.h>
+
+#include "frostsorrel.h"
+#include "reference.h"
+
+uint64_t frostsorrel_fresh(uint8_t *image, size_t image_len)
+{
+    return reference_fresh(image, image_len);
+}
+
+uint64_t frostsorrel_step(uint8_t *image, size_t image_len, const uint8_t *event, size_t event_len)
+{
+    return reference_step(image, image_len, event, event_len);
+}
+
+uint64_t frostsorrel_read(const uint8_t *image, size_t image_len, uint32_t number)
+{
+    return reference_read(image, image_len, number);
+}
+
+uint64_t frostsorrel_listing(const uint8_t *trace, size_t trace_len, uint8_t *text, size_t text_len)
+{
+    static char listing[LISTING_ROOM]; /* with room for the 0 that C puts behind it */
+    size_t length;
+
+    if (text_len < FROSTSORREL_LISTING_BYTES)
+        return 0;
+    length = reference_list(listing, trace, trace_len);
+    memcpy(text, listing, length);
+    return length;
+}
