@@ -32,11 +32,6 @@ struct part {
     size_t length;
 };
 
-static int is_space(char c)
-{
-    return c == ' ' || c == '\t' || c == '\r';
-}
-
 static struct part next_part(struct rest *r)
 {
     struct part p;
@@ -56,14 +51,6 @@ static int is(struct part p, const char *word)
 }
 
 /* ---- a frame of a log: ID#DATA */
-
-static int digit(char c)
-{
-    static const char digits[] = "0123456789ABCDEF0123456789abcdef";
-    const char *at = memchr(digits, c, sizeof digits - 1);
-
-    return at ? (int)(at - digits) % 16 : -1;
-}
 
 static int all_digits(const char *at, size_t length)
 {

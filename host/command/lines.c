@@ -60,6 +60,19 @@ void fault(struct lines *l, const char *format, ...)
     text_add(&l->faults, "%s:%d: %s\n", l->name, l->number ? l->number : 1, message);
 }
 
+int is_space(char c)
+{
+    return c == ' ' || c == '\t' || c == '\r';
+}
+
+int digit(char c)
+{
+    static const char digits[] = "0123456789ABCDEF0123456789abcdef";
+    const char *at = memchr(digits, c, sizeof digits - 1);
+
+    return at ? (int)(at - digits) % 16 : -1;
+}
+
 void add_quoted(struct text *t, const char *at, size_t length)
 {
     for (size_t i = 0; i < length && i < LONGEST_QUOTED; i++)

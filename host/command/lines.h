@@ -29,6 +29,12 @@ int next_line(struct lines *l);
 /* Notes what is wrong with this line. Only its first fault counts: what follows may come of that. */
 PRINTF_LIKE(2, 3) void fault(struct lines *l, const char *format, ...);
 
+/* Spaces within a line, the sign of a line end of other systems among them. */
+int is_space(char c);
+
+/* What a hexadecimal digit is worth, -1 for any other character. */
+int digit(char c);
+
 /* Adds words of a file to a message, cut short, and bytes that do not print as \xHH. */
 void add_quoted(struct text *t, const char *at, size_t length);
 

@@ -38,11 +38,6 @@ static const struct heading {
 
 /* ---- words */
 
-static int is_space(char c)
-{
-    return c == ' ' || c == '\t' || c == '\r';
-}
-
 /* How long the word is that begins here: a sign of the language, or all that no space or sign ends. */
 static size_t word_length(const char *at, const char *end)
 {
@@ -99,7 +94,7 @@ static void add_expected(struct text *t, const struct reader *r)
     }
 }
 
-/* The words from here to the last one taken, or the next one, are not what may stand there. */
+/* The words between these places are not what may stand there. */
 static void unexpected_from(struct reader *r, const char *first, const char *end)
 {
     struct text message = {0};
@@ -140,14 +135,6 @@ static void needs(struct reader *r, const char *word)
         unexpected(r);
 }
 
-static int digit(char c, int base)
-{
-    static const char digits[] = "0123456789abcdef";
-    const char *at = memchr(digits, lower(c), (size_t)base);
-
-    return at ? (int)(at - digits) : -1;
-}
-
 /* The word that stands next as a number of at most 32 bits: decimal without a 0 in front, or 0x and digits. */
 static int is_number(const struct reader *r, uint32_t *value)
 {
@@ -157,9 +144,11 @@ static int is_number(const struct reader *r, uint32_t *value)
     if (r->length == 0 || (base == 10 && r->length > 1 && r->word[0] == '0'))
         return 0;
     for (size_t i = base == 16 ? 2 : 0; i < r->length; i++) {
-        if (digit(r->word[i], base) < 0)
+        int next = digit(r->word[i]);
+
+        if (next < 0 || next >= base)
             return 0;
-        sum = sum * (unsigned)base + (unsigned)digit(r->word[i], base);
+        sum = sum * (unsigned)base + (unsigned)next;
         if (sum > UINT32_MAX)
             return 0;
     }
@@ -245,7 +234,7 @@ static int take_bytes(struct reader *r, uint8_t *into, int most, const char *wha
         size_t i = 0;
 
         expect(r, what, 0);
-        while (i < r->length && digit(r->word[i], 16) >= 0)
+        while (i < r->length && digit(r->word[i]) >= 0)
             i++;
         if (i < r->length || i % 2 || i == 0)
             break;
@@ -254,7 +243,7 @@ static int take_bytes(struct reader *r, uint8_t *into, int most, const char *wha
             break;
         }
         for (i = 0; i < r->length; i += 2)
-            into[count++] = (uint8_t)(16 * digit(r->word[i], 16) + digit(r->word[i + 1], 16));
+            into[count++] = (uint8_t)(16 * digit(r->word[i]) + digit(r->word[i + 1]));
         advance(r);
     }
     return count;
@@ -303,6 +292,21 @@ static void add_write(struct reader *r, uint8_t number, uint32_t value)
 static void add_plain(struct reader *r, uint8_t operation, uint8_t target, uint32_t value)
 {
     frostsorrel_event(new_event(r), operation, target, 0, value);
+}
+
+/* Takes over what an event says of directions and enabled mailboxes, as if the model will accept it. */
+static void follow(struct reader *r, const uint8_t *event)
+{
+    if (event[0] == FROSTSORREL_RESET)
+        r->enabled = 0; /* the mailboxes keep their words, and the scenario what it said of them */
+    if (event[0] != FROSTSORREL_WRITE_REGISTER)
+        return;
+    if (event[1] == FROSTSORREL_MC)
+        r->enabled = frostsorrel_event_value(event);
+    if (event[1] == FROSTSORREL_MD) {
+        r->receiving = frostsorrel_event_value(event) | 1u << 31;
+        r->known = UINT32_MAX;
+    }
 }
 
 static void set_direction(struct reader *r, uint8_t mailbox, int receives)
@@ -394,6 +398,7 @@ static void read_write(struct reader *r)
 
     needs(r, "=");
     add_write(r, number, take_word_value(r));
+    follow(r, r->events[0]);
 }
 
 static void read_options(struct reader *r)
@@ -409,8 +414,9 @@ static void read_enable(struct reader *r)
     for (int mailbox = 0; mailbox < FROSTSORREL_MAILBOXES; mailbox++)
         if (unknown >> mailbox & 1)
             fault(r->lines, "mailbox %d: no line above says that it receives, sends or replies, or writes MD", mailbox);
+    r->enabled |= bits;
     add_write(r, FROSTSORREL_MD, r->receiving);
-    add_write(r, FROSTSORREL_MC, r->enabled | bits);
+    add_write(r, FROSTSORREL_MC, r->enabled);
 }
 
 /* One write, with the bits of these mailboxes. */
@@ -440,6 +446,7 @@ static void read_remote(struct reader *r)
 static void read_plain(struct reader *r)
 {
     add_plain(r, r->form->number, 0, 0);
+    follow(r, r->events[0]);
 }
 
 static void read_outcome(struct reader *r)
@@ -485,6 +492,7 @@ static void read_raw(struct reader *r)
     if (!r->broken && !belongs(r->section, event[0]))
         fault(r->lines, "found operation %d; in \"%s\" may stand operation %s", event[0],
               headings[r->section].whole, operations[r->section]);
+    follow(r, event);
 }
 
 enum { IN_MAILBOXES = 1, IN_REGISTERS = 2, IN_EVENTS = 4 };
@@ -539,21 +547,6 @@ static void read_heading(struct reader *r)
     r->section = section;
 }
 
-/* Takes over what an event says of directions and enabled mailboxes, as if the model will accept it. */
-static void follow(struct reader *r, const uint8_t *event)
-{
-    if (event[0] == FROSTSORREL_RESET)
-        r->enabled = 0;
-    if (event[0] != FROSTSORREL_WRITE_REGISTER)
-        return;
-    if (event[1] == FROSTSORREL_MC)
-        r->enabled = frostsorrel_event_value(event);
-    if (event[1] == FROSTSORREL_MD) {
-        r->receiving = frostsorrel_event_value(event) | 1u << 31;
-        r->known = UINT32_MAX;
-    }
-}
-
 static void add_events(struct reader *r, uint32_t times)
 {
     struct text *section = &r->sections[r->section];
@@ -566,8 +559,6 @@ static void add_events(struct reader *r, uint32_t times)
     }
     for (uint32_t turn = 0; turn < times; turn++)
         text_bytes(section, r->events, (size_t)r->count * FROSTSORREL_EVENT_BYTES);
-    for (int i = 0; i < r->count; i++)
-        follow(r, r->events[i]);
 }
 
 static void read_form(struct reader *r, const struct form *form)
