@@ -90,7 +90,7 @@ static void text_step_done(struct pen *p)
     (void)p;
 }
 
-static void write_text(struct text *out, const struct run *r, const char *name)
+void write_text(struct text *out, const struct run *r, const char *name)
 {
     struct pen p = {{0}, wants_colour(), text_heading, text_line, text_row, text_step, text_detail, text_step_done};
     struct text sums = {0};

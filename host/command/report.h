@@ -40,7 +40,8 @@ uint32_t in_use(const struct run *r);
 /* Adds the picture of a run: an SVG for each band of steps. */
 void draw_picture(struct text *out, const struct run *r);
 
-/* Writes the whole page of a run. */
+/* Writes the whole report of a run, into an empty text: as text, or as a page. */
+void write_text(struct text *out, const struct run *r, const char *name);
 void write_page(struct text *out, const struct run *r, const char *name);
 
 #endif

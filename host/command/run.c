@@ -82,13 +82,18 @@ static void take_steps(struct run *r)
             take_step(r, ++step, r->trace.section[section].events + FROSTSORREL_EVENT_BYTES * i);
 }
 
+void run_steps(struct run *r)
+{
+    take_steps(r);
+    check_listing(r);
+}
+
 int run_trace(const char *path, struct run *into)
 {
     memset(into, 0, sizeof *into);
     if (read_trace(path, &into->trace) != COMMAND_DONE)
         return COMMAND_FAILED;
-    take_steps(into);
-    check_listing(into);
+    run_steps(into);
     return COMMAND_DONE;
 }
 

@@ -28,6 +28,9 @@ struct run {
  */
 int run_trace(const char *path, struct run *into);
 
+/* Runs the trace that stands in r->trace; all else of r is zero. */
+void run_steps(struct run *r);
+
 void free_run(struct run *r);
 
 #endif

@@ -59,7 +59,7 @@ static size_t take_section(struct trace *t, int section, size_t at)
     return at + 2 + needed;
 }
 
-static void take_apart(struct trace *t)
+void split_trace(struct trace *t)
 {
     size_t at = 0;
 
@@ -78,7 +78,7 @@ int read_trace(const char *path, struct trace *into)
     memset(into, 0, sizeof *into);
     if (read_whole(path, FROSTSORREL_TRACE_BYTES, &into->file) != COMMAND_DONE)
         return COMMAND_FAILED;
-    take_apart(into);
+    split_trace(into);
     return COMMAND_DONE;
 }
 

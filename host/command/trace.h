@@ -23,6 +23,9 @@ struct trace {
  */
 int read_trace(const char *path, struct trace *into);
 
+/* Takes apart what stands in t->file already. */
+void split_trace(struct trace *t);
+
 void free_trace(struct trace *t);
 
 /* Which operations may stand in a section, by its number from 0. */
