@@ -17,9 +17,9 @@ static const char help[] =
     "\n"
     "or as candump shows them: can0  718   [4]  03 7F 11 22\n"
     "\n"
-    "What the firmware itself has sent is in such a log as well: take out what it is to send again. A model has one\n"
-    "bus, so frames of a second interface are refused; so is all that is no classic CAN frame (CAN FD, error frames),\n"
-    "and more than 1,000 frames. Each such line is named with the reason, and then nothing is printed.\n";
+    "Frames that the firmware itself has sent are in such a log as well; take those out that it sends in the scenario.\n"
+    "A model has one bus, so frames of a second interface are refused; so is all that is no classic CAN frame (CAN FD,\n"
+    "error frames), and more than 1,000 frames. Each such line is named with the reason, and then nothing is printed.\n";
 
 /* What is left of a line. */
 struct rest {
