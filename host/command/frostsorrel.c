@@ -1,4 +1,6 @@
 /* frostsorrel: traces of the model for people. Each subcommand is a file of its own. */
+#define _XOPEN_SOURCE 700 /* SIGPIPE and SIGXFSZ beside C99 */
+
 #include "command.h"
 
 #include <signal.h>
@@ -32,7 +34,8 @@ static const char help[] =
 
 int main(int argc, char **argv)
 {
-    signal(SIGPIPE, SIG_IGN); /* a reader that has gone is an error like a full disk, not a sudden end */
+    signal(SIGPIPE, SIG_IGN); /* a reader that has gone, and a file that may not grow, are errors like a full disk */
+    signal(SIGXFSZ, SIG_IGN); /* and not a sudden end */
     if (argc < 2)
         return misused("", "which subcommand?");
     if (strcmp(argv[1], "--help") == 0)
