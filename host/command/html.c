@@ -144,7 +144,8 @@ void write_page(struct text *out, const struct run *r, const char *name)
     tell_mailboxes(&p, r);
     tell_state(&p, r);
     html_heading(&p, "Step by step");
-    text_add(&p.out, "<table class=\"steps\">\n<thead><tr><th>Step</th><th>Event</th><th>What it did</th></tr></thead>\n");
+    text_add(&p.out, "<table class=\"steps\">\n"
+                     "<thead><tr><th>Step</th><th>Event</th><th>What it did</th></tr></thead>\n");
     tell_steps(&p, r);
     text_add(&p.out, "</table>\n<footer>Made by frostsorrel %s.</footer>\n</body>\n</html>\n", FROSTSORREL_VERSION);
     *out = p.out;

@@ -22,21 +22,26 @@ enum {
 };
 
 /* What a lane shows. All but the first three of these are entries of the books. */
-enum mark { START, BACK, REFUSED, MARK_STORED, MARK_LOST, MARK_RELEASED, MARK_RAISED, MARK_SENT, MARK_ABORTED, DROPPED, MARKS };
+enum mark {
+    START, BACK, REFUSED,
+    MARK_STORED, MARK_LOST, MARK_RELEASED, MARK_RAISED, MARK_SENT, MARK_ABORTED, DROPPED,
+    MARKS
+};
 
+/* The shape is a path around 0, one unit to each side. */
 static const struct {
-    const char *class, *name;
+    const char *class, *name, *shape;
 } marks[MARKS] = {
-    {"start", "start"},
-    {"back", "not sent, waits on"},
-    {"refused", "event refused"},
-    {"store", "stored"},
-    {"lost", "stored over a held frame: LOST"},
-    {"release", "released"},
-    {"request", "request raised"},
-    {"sent", "sent"},
-    {"abort", "aborted"},
-    {"drop", "dropped by sleep or reset"},
+    {"start", "start", "M-1-1V1L1 0z"},
+    {"back", "not sent, waits on", "M1-1V1L-1 0z"},
+    {"refused", "event refused", "M-1-1L1 1M-1 1L1-1"},
+    {"store", "stored", "M-1 0A1 1 0 1 0 1 0A1 1 0 1 0-1 0z"},
+    {"lost", "stored over a held frame: LOST", "M-1.5 0L0-1.5L1.5 0L0 1.5z"},
+    {"release", "released", "M-1 0A1 1 0 1 0 1 0A1 1 0 1 0-1 0z"},
+    {"request", "request raised", "M-1 1H1L0-1z"},
+    {"sent", "sent", "M-1-1H1V1H-1z"},
+    {"abort", "aborted", "M-1-1H1V1H-1zL1 1M-1 1L1-1"},
+    {"drop", "dropped by sleep or reset", "M-1-1H1L0 1z"},
 };
 
 static enum mark mark_of(enum entry entry)
@@ -68,41 +73,11 @@ static double end_of(const struct band *b)
 
 /* ---- shapes */
 
-static void draw_shape(struct text *out, enum mark mark, double x, double y, double s)
+/* The element is left open: a title may follow. */
+static void draw_shape(struct text *out, enum mark mark, double x, double y, double size)
 {
-    text_add(out, "<path class=\"%s\" d=\"", marks[mark].class);
-    switch (mark) {
-    case MARK_STORED:
-    case MARK_RELEASED: /* a disc, a ring */
-        text_add(out, "M%.1f %.1fa%.1f %.1f 0 1 0 %.1f 0a%.1f %.1f 0 1 0 %.1f 0z", x - s, y, s, s, 2 * s, s, s, -2 * s);
-        break;
-    case MARK_LOST: /* a large diamond */
-        text_add(out, "M%.1f %.1fL%.1f %.1fL%.1f %.1fL%.1f %.1fz", x - 1.5 * s, y, x, y - 1.5 * s, x + 1.5 * s, y, x,
-                 y + 1.5 * s);
-        break;
-    case MARK_RAISED: /* triangles, by where they point: up, right, left, down */
-        text_add(out, "M%.1f %.1fh%.1fL%.1f %.1fz", x - s, y + s, 2 * s, x, y - s);
-        break;
-    case START:
-        text_add(out, "M%.1f %.1fv%.1fL%.1f %.1fz", x - s, y - s, 2 * s, x + s, y);
-        break;
-    case BACK:
-        text_add(out, "M%.1f %.1fv%.1fL%.1f %.1fz", x + s, y - s, 2 * s, x - s, y);
-        break;
-    case DROPPED:
-        text_add(out, "M%.1f %.1fh%.1fL%.1f %.1fz", x - s, y - s, 2 * s, x, y + s);
-        break;
-    case MARK_SENT: /* a square */
-        text_add(out, "M%.1f %.1fh%.1fv%.1fh%.1fz", x - s, y - s, 2 * s, 2 * s, -2 * s);
-        break;
-    case MARK_ABORTED: /* a crossed square */
-        text_add(out, "M%.1f %.1fh%.1fv%.1fh%.1fzl%.1f %.1fm%.1f 0l%.1f %.1f", x - s, y - s, 2 * s, 2 * s, -2 * s, 2 * s,
-                 2 * s, -2 * s, 2 * s, -2 * s);
-        break;
-    default: /* a cross */
-        text_add(out, "M%.1f %.1fl%.1f %.1fm%.1f 0l%.1f %.1f", x - s, y - s, 2 * s, 2 * s, -2 * s, 2 * s, -2 * s);
-    }
-    text_add(out, "\"");
+    text_add(out, "<path class=\"mark %s\" transform=\"translate(%.1f %.1f) scale(%.1f)\" d=\"%s\"", marks[mark].class,
+             x, y, size, marks[mark].shape);
 }
 
 static void draw_words(struct text *out, const char *class, double x, double y, const char *words)
@@ -177,7 +152,7 @@ static void draw_modes(struct band *b)
 {
     draw_words(b->out, "name", NAMES, b->bottom + 16, "mode");
     for (int k = b->first, last; k <= b->last; k = last + 1) {
-        const char *mode = mode_after(b->run, k);
+        const char *mode = mode_after(b->run, k), initial[] = {mode[0], 0};
         double x = LEFT + (k - b->first) * b->step, width;
 
         for (last = k; last < b->last && mode_after(b->run, last + 1) == mode;)
@@ -185,10 +160,8 @@ static void draw_modes(struct band *b)
         width = (last - k + 1) * b->step;
         draw_box(b->out, mode[0] == 'n' ? "mode normal" : mode[0] == 'b' ? "mode off" : "mode other", x, b->bottom + 3,
                  width, 18);
-        if (width > 84)
-            draw_words(b->out, "inside", x + 6, b->bottom + 16, mode);
-        else if (width > 14)
-            text_add(b->out, "<text class=\"inside\" x=\"%.1f\" y=\"%.1f\">%c</text>\n", x + 4, b->bottom + 16, mode[0]);
+        if (width > 14)
+            draw_words(b->out, "inside", x + 4, b->bottom + 16, width > 86 ? mode : initial);
     }
     b->bottom += STRIP_HEIGHT;
 }
@@ -339,7 +312,7 @@ static const char style[] =
     ".name{font-size:12px;text-anchor:end}.small{font-size:9.5px;text-anchor:end;fill:#566270}"
     ".number{font-size:11px;text-anchor:middle;fill:#566270}.inside{font-size:11px}.key{font-size:11.5px}"
     ".alarm{font-size:9px;font-weight:bold;text-anchor:middle;fill:#b02700}"
-    ".ground{fill:#fff}.grid{stroke:#e3e8ed;stroke-width:1}.lane{stroke:#a9b4bf;stroke-width:1}"
+    ".mark{vector-effect:non-scaling-stroke}.ground{fill:#fff}.grid{stroke:#e3e8ed;stroke-width:1}.lane{stroke:#a9b4bf;stroke-width:1}"
     ".mode{stroke:#a9b4bf;stroke-width:1}.normal{fill:#fff}.other{fill:#e3e8ed}.off{fill:#f7cfb5}"
     ".held{fill:#bfdcf0;stroke:#0072b2;stroke-width:.8}.waiting{fill:#c5e8dc;stroke:#009e73;stroke-width:.8}"
     ".store{fill:#0072b2}.release{fill:#fff;stroke:#0072b2;stroke-width:1.8}"
@@ -364,7 +337,8 @@ static void draw_sample(struct text *out, int i, double x, double y)
     }
 }
 
-enum { KEYS = MARKS + 4, KEYS_IN_ROW = 5, KEY_HEIGHT = 22, LEGEND_HEIGHT = (KEYS + KEYS_IN_ROW - 1) / KEYS_IN_ROW * KEY_HEIGHT };
+enum { KEYS = MARKS + 4, KEYS_IN_ROW = 5, KEY_HEIGHT = 22 };
+enum { LEGEND_HEIGHT = (KEYS + KEYS_IN_ROW - 1) / KEYS_IN_ROW * KEY_HEIGHT };
 
 static const char *name_of_key(int i)
 {
@@ -430,7 +404,7 @@ static void draw_band(struct text *out, const struct run *r, int first, int last
 
     if (b.step > WIDEST_STEP)
         b.step = WIDEST_STEP;
-    b.size = b.step > 18 ? 6 : b.step / 3 < 2.5 ? 2.5 : b.step / 3;
+    b.size = b.step > 15 ? 6 : b.step / 2.5;
     text_add(out, "<svg xmlns=\"http://www.w3.org/2000/svg\" viewBox=\"0 0 %d %.0f\" width=\"%d\" height=\"%.0f\" "
                   "role=\"img\" aria-label=\"Steps %d to %d\">\n", WIDTH, height, WIDTH, height, first, last);
     if (is_first)
@@ -466,5 +440,5 @@ void draw_picture(struct text *out, const struct run *r)
     int bands = (steps + MOST_IN_BAND - 1) / MOST_IN_BAND;
 
     for (int i = 0; i < bands; i++)
-        draw_band(out, r, first + (int)((long)steps * i / bands), first + (int)((long)steps * (i + 1) / bands) - 1, i == 0);
+        draw_band(out, r, first + steps * i / bands, first + steps * (i + 1) / bands - 1, i == 0);
 }

@@ -173,86 +173,50 @@ void tell_steps(struct pen *p, const struct run *r)
 
 /* ---- the books */
 
-/* A row of a table is made of texts that grow. */
-struct cells {
-    struct text text[MOST_CELLS];
-    int count;
+/* Frames and requests have books of one kind: what began, two ways to end, the rest, which are drops, and what is left. */
+struct account {
+    const char *head[MOST_CELLS];
+    enum entry began, behind; /* its entries, and the one behind them */
+    const char *left;
 };
+static const struct account frames = {
+    {"Frames", "stored", "released", "overwritten", "dropped", "held", ""}, STORED, RAISED, "the frame of step %d"};
+static const struct account requests = {
+    {"Requests", "raised", "sent", "aborted", "dropped", "waiting", ""}, RAISED, ENTRIES, "the request of step %d"};
 
-static struct text *next_cell(struct cells *c)
-{
-    return &c->text[c->count++];
-}
-
-static void put_row(struct pen *p, struct cells *c)
-{
-    const char *cells[MOST_CELLS];
-
-    for (int i = 0; i < c->count; i++)
-        cells[i] = c->text[i].length ? c->text[i].at : "";
-    p->row(p, cells, c->count, 0);
-    for (int i = 0; i < c->count; i++)
-        text_free(&c->text[i]);
-    c->count = 0;
-}
-
-static void name_mailbox(struct text *t, const struct run *r, int n)
-{
-    text_add(t, "mailbox %d, ", n);
-    say_identifier(t, frostsorrel_mailbox_word(r->image[r->steps], (uint32_t)n, 0));
-}
-
-static void tell_frames_of(struct pen *p, const struct run *r, int n)
-{
-    static const enum entry columns[] = {STORED, RELEASED, OVERWRITTEN, FRAME_RESET};
-    struct cells c = {0};
-    int held = (int)(r->books.held >> n & 1);
-
-    name_mailbox(next_cell(&c), r, n);
-    for (int i = 0; i < 4; i++)
-        text_add(next_cell(&c), "%lu", r->books.count[columns[i]][n]);
-    text_add(next_cell(&c), "%d", held);
-    if (held)
-        text_add(next_cell(&c), "the frame of step %d", r->books.stored_in[n]);
-    else
-        next_cell(&c);
-    put_row(p, &c);
-}
-
-static void tell_requests_of(struct pen *p, const struct run *r, int n)
+static void tell_account_of(struct pen *p, const struct run *r, const struct account *a, int n)
 {
     const struct books *b = &r->books;
-    struct cells c = {0};
-    int waiting = (int)(b->waiting >> n & 1);
+    int is_left = (int)((a == &frames ? b->held : b->waiting) >> n & 1);
+    unsigned long dropped = 0;
+    struct text cells[MOST_CELLS] = {{0}};
+    const char *row[MOST_CELLS];
 
-    name_mailbox(next_cell(&c), r, n);
-    text_add(next_cell(&c), "%lu", b->count[RAISED][n]);
-    text_add(next_cell(&c), "%lu", b->count[SENDINGS][n]);
-    text_add(next_cell(&c), "%lu", b->count[ABORTED][n]);
-    text_add(next_cell(&c), "%lu", b->count[SLEPT][n] + b->count[REQUEST_RESET][n]);
-    text_add(next_cell(&c), "%d", waiting);
-    if (waiting)
-        text_add(next_cell(&c), "the request of step %d", b->raised_in[n]);
-    else
-        next_cell(&c);
-    put_row(p, &c);
+    text_add(&cells[0], "mailbox %d, ", n);
+    say_identifier(&cells[0], frostsorrel_mailbox_word(r->image[r->steps], (uint32_t)n, 0));
+    for (int i = 0; i < 3; i++)
+        text_add(&cells[1 + i], "%lu", b->count[(int)a->began + i][n]);
+    for (int i = (int)a->began + 3; i < (int)a->behind; i++)
+        dropped += b->count[i][n];
+    text_add(&cells[4], "%lu", dropped);
+    text_add(&cells[5], "%d", is_left);
+    text_add(&cells[6], is_left ? a->left : "", a == &frames ? b->stored_in[n] : b->raised_in[n]);
+    for (int i = 0; i < MOST_CELLS; i++)
+        row[i] = cells[i].at;
+    p->row(p, row, MOST_CELLS, 0);
+    for (int i = 0; i < MOST_CELLS; i++)
+        text_free(&cells[i]);
 }
 
-static const char *const frames_head[MOST_CELLS] = {"Frames",  "stored", "released", "overwritten",
-                                                    "dropped", "held",   ""};
-static const char *const requests_head[MOST_CELLS] = {"Requests", "raised",  "sent", "aborted",
-                                                      "dropped",  "waiting", ""};
-
 /* A table with a line for each of these mailboxes; no table where there is none. */
-static void tell_books(struct pen *p, const struct run *r, uint32_t mailboxes, const char *const *head,
-                       void (*tell_one)(struct pen *, const struct run *, int))
+static void tell_account(struct pen *p, const struct run *r, const struct account *a, uint32_t mailboxes)
 {
     if (!mailboxes)
         return;
-    p->row(p, head, MOST_CELLS, 1);
+    p->row(p, a->head, MOST_CELLS, 1);
     for (int n = 0; n < FROSTSORREL_MAILBOXES; n++)
         if (mailboxes & BIT(n))
-            tell_one(p, r, n);
+            tell_account_of(p, r, a, n);
     p->row(p, 0, 0, 0);
 }
 
@@ -288,8 +252,8 @@ void tell_mailboxes(struct pen *p, const struct run *r)
     p->heading(p, "The books of the mailboxes in use");
     if (!used)
         p->line(p, NOTHING, "No mailbox was used.");
-    tell_books(p, r, (used & receive) | mailboxes_with(r, STORED), frames_head, tell_frames_of);
-    tell_books(p, r, (used & ~receive) | mailboxes_with(r, RAISED), requests_head, tell_requests_of);
+    tell_account(p, r, &frames, (used & receive) | mailboxes_with(r, STORED));
+    tell_account(p, r, &requests, (used & ~receive) | mailboxes_with(r, RAISED));
     if (r->fault.length)
         tell_lines(p, LOSS, r->fault.at);
     else
