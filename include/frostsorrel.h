@@ -11,8 +11,8 @@
  * event may not lie within the image it is fed to. Everything else is checked: any length, any
  * content and any number gets the answer stated below.
  *
- * "Document 01" is the paper with the exact rules. A good image is one that its rules allow; the
- * crate `good` states them one by one. What frostsorrel_fresh has filled is good.
+ * "Document 01" is the paper with the exact rules, and the crate `rules` states them one by one. A
+ * good image is one that they allow. What frostsorrel_fresh has filled is good.
  */
 #ifndef FROSTSORREL_H
 #define FROSTSORREL_H
@@ -36,7 +36,7 @@ extern "C" {
 
 #define FROSTSORREL_SECTION_EVENTS 1000 /* the most that a section of a trace has */
 #define FROSTSORREL_TRACE_BYTES 48006   /* the longest trace: three full sections */
-#define FROSTSORREL_LISTING_BYTES 39033 /* the longest listing: that of such a trace */
+#define FROSTSORREL_LISTING_BYTES 39033 /* room for any listing */
 
 /* The refusals. Where several apply, the lowest is given. */
 enum {
