@@ -9,7 +9,6 @@ use crate::parts::payload;
 use crate::parts::quiet;
 use crate::parts::target;
 use crate::parts::value;
-use mailboxes::Identifier;
 
 // The frame of an event, read without a test.
 fn frame_of(e: &[u8]) -> Frame
@@ -20,7 +19,7 @@ fn frame_of(e: &[u8]) -> Frame
     Frame {
         ide: bits::test(v, 31),
         rtr: bits::test(v, 30),
-        id: Identifier(v % 536870912),
+        id: mailboxes::identifier_of(v),
         dlc: target(e),
         bytes: payload(e),
     }

@@ -40,8 +40,7 @@ fn frame_word(f: Frame) -> u32
     requires { ⌜ f .id .0 < 536870912 ⌝ }
     ensures { λ r. ⌜ r ≡ frameWord f ⌝ }
 {
-    let id = f.id;
-    bits::flag(f.ide, 31) + id.0
+    mailboxes::word_of(f.id, f.ide)
 }
 
 // Does word 0, w, agree with the frame in every compared bit that the mask does not free?

@@ -7,6 +7,7 @@ pub use filing::put_frame;
 pub use filing::put_stamp;
 pub use keys::identifier_of;
 pub use keys::key_of;
+pub use keys::word_of;
 ghost use mathlib.Core.Path.{_≡_};
 ghost use Prim.Native.Nat.{_+_, _*_, _<_, _≤_};
 ghost use lib.ListN.{length};
@@ -14,7 +15,7 @@ ghost use Rattle.words.specs.Word.{putWord};
 ghost use Rattle.mailboxes.specs.Mailbox.{mailboxWord, mailbox, withMailbox, wordLayout};
 
 // An identifier and an arbitration key: two numbers of 32 bits that are never one another.
-pub struct Identifier(pub u32);
+pub struct Identifier(u32);
 
 pub struct Key(pub u32);
 

@@ -12,6 +12,9 @@ test-requires c κs = search needs
 test-requires-2 : tie.Need-test-requires-2
 test-requires-2 c κs = search needs
 
+identifier-of-requires : tie.Need-identifier-of-requires
+identifier-of-requires c κs = search needs
+
 target-requires : tie.Need-target-requires
 target-requires c κs = search needs
 
@@ -21,8 +24,8 @@ payload-requires c κs = search needs
 returns : tie.Need-returns
 unfolding frameOf
 returns c =
-    let b = c .before .before in
-    rw (b .before .test .ensures, b .test2 .ensures, b .before .before .value .ensures, c .before .target .ensures, c .payload .ensures)
+    let b = c .before .before .before in
+    rw (b .before .test .ensures, b .test2 .ensures, c .before .before .identifier-of .ensures, b .before .before .value .ensures, c .before .target .ensures, c .payload .ensures)
 
 pub frame-of-spec : {M : Type 1} → statement M
 frame-of-spec =
@@ -31,6 +34,7 @@ frame-of-spec =
     value-requires
     test-requires
     test-requires-2
+    identifier-of-requires
     target-requires
     payload-requires
     returns)
