@@ -33,7 +33,7 @@ fresh-byte : (i : ℕ) → i < 512 → byte freshImage i ≡ 0
 unfolding freshImage zeroImage
 fresh-byte i l = byte-stays zeroImage freshBlock i l ∙ zeros 640 i
 
-filled : (s : List ℕ) → length s ≡ 640 → fresh s ≡ accepted freshImage
+pub filled : (s : List ℕ) → length s ≡ 640 → fresh s ≡ accepted freshImage
 unfolding fresh
 filled s h = rw (eq-eqb (length s) 640 h)
 

@@ -14,6 +14,7 @@ pub mod Good
 pub mod Refusals
 pub mod Reading
 pub mod Fresh
+pub mod Order
 pub mod Step
 pub mod Numerals
 pub mod Files

@@ -2,7 +2,7 @@
 use Prim.Native.Nat.{ℕ, zero, suc, _+_, _*_, _/_, _%_, _^_, _<_, _≤_}
 use mathlib.Core.Path.{_≡_, refl, sym, _∙_, ap, ap₂, subst}
 use mathlib.Core.Bool.{Bool, true, false, cond, not, xor, _&&_, _||_, or-true, or-false, false≢true}
-use mathlib.Core.List.{List}
+use mathlib.Core.List.{List, [], _∷_}
 use native.Mathlib.Decide.{decLt, ℕ-discrete}
 use native.Mathlib.Omega.{arith}
 use lib.Dec.{eqb, ltb, leb}
@@ -11,7 +11,7 @@ use lib.ListN.{length, List·getD-eq-default}
 use borrow.Author.Tests.{eqb-true, eq-eqb, ne-eqb, ltb-false, lt-ltb, le-ltb, le-leb, lt-leb}
 use Rattle.bits.specs.Bit.{digit, bit, without, setBit, mask}
 use Rattle.bits.specs.Below.{allBelow}
-use Rattle.bits.specs.Tests.{topDown, gapDown}
+use Rattle.bits.specs.Tests.{topDown, gapDown, firstFrom}
 use Rattle.bits.proofs.Laws.{bit-high, bit-and, bit-or, bit-xor, bit-mask, bit-without}
 use Rattle.bits.proofs.Sets.{and-lt-l, top-up}
 use Rattle.bits.proofs.Below.{each-below, all-below}
@@ -28,8 +28,8 @@ use Rattle.events.proofs.Unused.{data-unused, unused-data}
 use Rattle.good.specs.Good.{goodImage}
 use Rattle.good.proofs.Image.{GoodImage, image-facts}
 use Rattle.refusals.specs.Refusal as product
-use Rattle.rules.specs.Words.{Words, _has_, _is_, byte, box, any}
-use Rattle.rules.specs.Events.{operation, target, part, value, rtr, unknown, asleep, unused, registerBad, wordBad, bad, turned, busy, locked, pointless, later, refusalOf}
+use Rattle.rules.specs.Words.{Words, words, _has_, _is_, byte, box, any}
+use Rattle.rules.specs.Events.{operation, target, part, value, rtr, unknown, asleep, unused, registerBad, wordBad, bad, turned, busy, locked, pointless}
 use Rattle.rules.proofs.Any.{any-word}
 use Rattle.rules.proofs.Blocks.{ofBlock, of-block}
 
@@ -362,6 +362,13 @@ module _ (s e : List ℕ) (g : GoodImage s) (y : Bytes e) where
 
 -- ---- all together
 
+-- the tests of refusals 2 to 7, in their order
+abbrev pub testsAs : ℕ → Words → ℕ → List ℕ → List Bool
+testsAs op w box0 e = unknown op e ∷ asleep op w ∷ (unused op e || bad op e) ∷ busy op w e ∷ locked op w box0 e ∷ pointless op w ∷ []
+
+abbrev pub tests : List ℕ → List ℕ → List Bool
+tests s e = testsAs (operation e) (words s) (box s (target e) 0) e
+
 module _ (s e : List ℕ) (bytes : Bytes s) (y : Bytes e) (h : goodImage s ≡ true) where
   abbrev gi : GoodImage s
   gi = image-facts s bytes h
@@ -369,21 +376,23 @@ module _ (s e : List ℕ) (bytes : Bytes s) (y : Bytes e) (h : goodImage s ≡ t
   -- the product's list, at an operation
   abbrev chain : ℕ → ℕ
   chain k =
-      cond (not (length e is 16) || not (knownAs k e)) 2
-      (cond (wakefulAs k && Status.asleep (blockOf s)) 3
-      (cond (not (quietAs k e && allowedAs k e)) 4
-      (cond (product.busy (blockOf s) (eventAs k e)) 5
-      (cond (product.locked s (eventAs k e)) 6
-      (cond (product.pointless (blockOf s) (eventAs k e)) 7 0)))))
+      firstFrom 2
+      ((not (length e is 16) || not (knownAs k e))
+      ∷ (wakefulAs k && Status.asleep (blockOf s))
+      ∷ not (quietAs k e && allowedAs k e)
+      ∷ product.busy (blockOf s) (eventAs k e)
+      ∷ product.locked s (eventAs k e)
+      ∷ product.pointless (blockOf s) (eventAs k e)
+      ∷ [])
 
-  chains : (k : ℕ) → Dec (k < 11) → chain k ≡ later k (ofBlock (blockOf s)) (box s (target e) 0) e
+  chains : (k : ℕ) → Dec (k < 11) → chain k ≡ firstFrom 2 (testsAs k (ofBlock (blockOf s)) (box s (target e) 0) e)
   chains k (yes l) =
       rw (seconds e k l, thirds s e gi y k l, fourths e y k l, fifths s e gi y k l, sixths s e gi y k l, sevenths s e gi y k l)
   chains k (no l) = let p = second-past e k (omega arith) in rw (p .0, p .1)
 
-  pub same-refusal : refusalOf s e ≡ product.refusal s e
-  unfolding refusalOf product.refusal
+  pub same-refusal : firstFrom 2 (tests s e) ≡ product.refusal s e
+  unfolding product.refusal
   same-refusal =
-      ap (λ (w : Words). later (operation e) w (box s (target e) 0) e) (of-block s gi)
+      ap (λ (w : Words). firstFrom 2 (testsAs (operation e) w (box s (target e) 0) e)) (of-block s gi)
       ∙ sym (chains (operation e) (decLt (operation e) 11))
       ∙ rw h

@@ -1,12 +1,14 @@
--- "The events": the fields of an event, and refusals 2 to 7, each as a test of the event and the register words.
-use Prim.Native.Nat.{ℕ, _+_, _/_, _%_, _^_}
-use mathlib.Core.Bool.{Bool, cond, not, xor, _&&_, _||_}
+-- "The events": the fields of an event, and the refusals: 2 to 7 each as a test of the event and the register words.
+use Prim.Native.Nat.{ℕ, _+_, _/_, _%_, _^_, _<_}
+use mathlib.Core.Path.{_≡_}
+use mathlib.Core.Bool.{Bool, true, not, xor, _&&_, _||_}
 use mathlib.Core.List.{List, [], _∷_}
 use lib.Dec.{ltb, leb}
 use lib.ListN.{length}
 use Rattle.bits.specs.Below.{allBelow}
 use Rattle.words.specs.Word.{wordAt}
 use Rattle.rules.specs.Words.{Words, _has_, _is_, words, box, byte, among, any, MC, MD, TRS, RML, LAM, GAM, RFP, CDR, GIF, GIM, BCR1, BCR2, TSC, MODE, SLOT}
+use Rattle.rules.specs.Image.{Good}
 
 -- The events: operation, target and word have a byte each, the value four. A frame's value has IDE in bit 31, RTR in bit 30 and the
 -- identifier in 28 to 0.
@@ -104,15 +106,17 @@ locked op w box0 e =
 abbrev pub pointless : ℕ → Words → Bool
 pointless op w = op is 4 && w SLOT is 31
 
--- The refusals: of a good image and any event, the first that applies; 0 where none does.
-abbrev pub later : ℕ → Words → ℕ → List ℕ → ℕ
-later op w box0 e =
-    cond (unknown op e) 2
-    (cond (asleep op w) 3
-    (cond (unused op e || bad op e) 4
-    (cond (busy op w e) 5
-    (cond (locked op w box0 e) 6
-    (cond (pointless op w) 7 0)))))
+-- The refusals: number r applies to the image s and the event e. Which one is given: `Rules`.
+pub data Applies (s e : List ℕ) (r : ℕ) : Type 0 where
+  not-good : r ≡ 1 → (Good s → ⊥) → Applies s e r
+  is-unknown : r ≡ 2 → unknown (operation e) e ≡ true → Applies s e r
+  is-asleep : r ≡ 3 → asleep (operation e) (words s) ≡ true → Applies s e r
+  not-allowed : r ≡ 4 → (unused (operation e) e || bad (operation e) e) ≡ true → Applies s e r
+  is-busy : r ≡ 5 → busy (operation e) (words s) e ≡ true → Applies s e r
+  is-locked : r ≡ 6 → locked (operation e) (words s) (box s (target e) 0) e ≡ true → Applies s e r
+  slot-empty : r ≡ 7 → pointless (operation e) (words s) ≡ true → Applies s e r
 
-unfoldable pub refusalOf : List ℕ → List ℕ → ℕ
-refusalOf s e = later (operation e) (words s) (box s (target e) 0) e
+-- The refusals: r applies, and none before it does.
+pub record FirstRefusal (s e : List ℕ) (r : ℕ) : Type 0 where
+  pub applies : Applies s e r
+  pub before : (k : ℕ) → k < r → Applies s e k → ⊥

@@ -6,8 +6,7 @@ use mathlib.Core.Logic.{_≢_}
 use lib.ListN.{length}
 use Rattle.answers.specs.Answer.{Outcome}
 use Rattle.rules.specs.Words.{Words, words, byte, box, atMost, Only, BoxesStayBut, TSC, TEC, SLOT, OPTIONS}
-use Rattle.rules.specs.Image.{Good}
-use Rattle.rules.specs.Events.{operation, target, part, value, refusalOf}
+use Rattle.rules.specs.Events.{operation, target, part, value, Applies, FirstRefusal}
 use Rattle.rules.specs.Writing.{Write, BoxWrite}
 use Rattle.rules.specs.Receiving.{Frame}
 use Rattle.rules.specs.Sending.{Answers, Start, Sent, Unsent, ReceiveError, Recessive, Tick, Mode, Ending}
@@ -50,11 +49,10 @@ pub record Accepted (s e : List ℕ) (o : Outcome) : Type 0 where
 abbrev pub Refused : List ℕ → ℕ → Outcome → Type 0
 Refused s r o = (o .image ≡ s) × (o .refusal ≡ r) × Answers 32 0 o
 
--- The step: 1 for an image that is not good, else the first refusal that applies, else the event is accepted.
+-- The step: the first refusal that applies is given; where none does, the event is accepted.
 pub record Rules (s e : List ℕ) (o : Outcome) : Type 0 where
-  pub not-good : (Good s → ⊥) → Refused s 1 o
-  pub refuses : Good s → refusalOf s e ≢ 0 → Refused s (refusalOf s e) o
-  pub accepts : Good s → refusalOf s e ≡ 0 → Accepted s e o
+  pub refuses : (r : ℕ) → FirstRefusal s e r → Refused s r o
+  pub accepts : ((r : ℕ) → Applies s e r → ⊥) → Accepted s e o
 
 -- The image, fresh: 640 bytes become the fresh image, whatever they were. Another length is refused.
 pub record Fresh (s : List ℕ) (o : Outcome) : Type 0 where
