@@ -1,11 +1,12 @@
 -- The marked numbers, each as what a step leaves or a read answers on a whole image: one table, one statement.
-use Prim.Native.Nat.{ℕ, _+_, _*_, _%_, _^_}
+use Prim.Native.Nat.{ℕ, _+_, _*_, _^_}
 use mathlib.Core.Path.{_≡_, refl}
 use mathlib.Core.Bool.{Bool, true, false, _&&_}
 use mathlib.Core.List.{List, [], _∷_}
 use lib.Dec.{eqb}
 use Rattle.bits.specs.Bit.{digit}
 use Rattle.bits.specs.Below.{allBelow, countBelow, firstBelow}
+use Rattle.answers.specs.Answer.{packedReading}
 use Rattle.mailboxes.specs.declared.Identifier.{Identifier}
 use Rattle.mailboxes.specs.Arbitration.{keyOf}
 use Rattle.words.specs.Word.{wordAt, putWord, wordsOf, putWords}
@@ -49,9 +50,10 @@ sending = with 0 1 (with 2 1 (with 24 0 normal))
 abbrev pub event : ℕ → ℕ → List ℕ
 event op target = op ∷ target ∷ 0 ∷ 0 ∷ 0 ∷ 0 ∷ 0 ∷ 0 ∷ 0 ∷ 0 ∷ 0 ∷ 0 ∷ 0 ∷ 0 ∷ 0 ∷ 0 ∷ []
 
--- What register k of an image reads; of the image that an event leaves.
+-- What a read of register k of an image answers, in the one number that C gets: a refused read is none of the numbers below. The same
+-- of the image that an event leaves.
 abbrev pub reads : List ℕ → ℕ → ℕ
-reads s k = read s k .value
+reads s k = packedReading (read s k .refusal) (read s k .value)
 
 abbrev pub after : List ℕ → ℕ → ℕ → ℕ → ℕ
 after s op target k = reads (step s (event op target) .image) k
@@ -66,8 +68,8 @@ table =
     ∷ row (reads (with 22 3 freshImage) 32) 0x1F100
     ∷ row (after (with 20 248 sending) 4 2 20) 256
     ∷ row (after (with 20 247 sending) 4 2 20) 255
-    ∷ row (reads (with 20 96 normal) 32 % 2) 0
-    ∷ row (reads (with 20 97 normal) 32 % 2) 1
+    ∷ row (reads (with 20 96 normal) 32) 0x1F000
+    ∷ row (reads (with 20 97 normal) 32) 0x1F001
     ∷ row (after (with 19 65535 normal) 7 0 19) 0
     ∷ row (after (with 21 200 normal) 2 0 21) 127
     ∷ []

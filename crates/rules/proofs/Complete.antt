@@ -1,12 +1,12 @@
 -- The rulebook leaves nothing open: of a good image and an event that is not refused, two outcomes that meet it are the same.
 use Prim.Native.Nat.{ℕ, zero, suc, _+_, _-_, _*_, _/_, _<_, _≤_}
 use mathlib.Core.Path.{_≡_, refl, sym, _∙_, ap, subst}
-use mathlib.Core.Bool.{Bool, true, false, _&&_, false≢true}
+use mathlib.Core.Bool.{cond, Bool, true, false, _&&_, false≢true}
 use mathlib.Core.List.{List, [], _∷_}
-use mathlib.Core.Logic.{_⊎_, inl, inr}
+use mathlib.Core.Logic.{inl, inr}
 use native.Mathlib.Decide.{ℕ-discrete, decLt}
 use native.Mathlib.Omega.{arith}
-use lib.Dec.{eqb}
+use lib.Dec.{ltb, eqb}
 use borrow.Author.Tests.{eqb-true}
 use Rattle.bits.proofs.Laws.{same-bits}
 use Rattle.words.specs.Word.{wordsOf}
@@ -25,10 +25,11 @@ use Rattle.sending.proofs.Choice.{next-is, next-most}
 use Rattle.answers.specs.Answer.{Outcome as Result}
 use Rattle.model.proofs.Kept.{Taken as TakenEvent, taken}
 use Rattle.rules.specs.Words.{Words, _has_, _is_, words, byte, box, BoxesStayBut, TRS, RMP, RML, RFP, MBRIF, GIF, REC, MODE, SLOT, OPTIONS}
-use Rattle.rules.specs.Events.{operation, target, part, value, rtr}
+use Rattle.rules.specs.Image.{onBus}
+use Rattle.rules.specs.Events.{operation, target, word, value, rtr, Answers}
 use Rattle.rules.specs.Writing.{BoxWrite}
 use Rattle.rules.specs.Receiving.{Stored, Frame}
-use Rattle.rules.specs.Sending.{onBus, candidate, key, Start, Ending, Answers}
+use Rattle.rules.specs.Sending.{candidate, key, Start, Ending}
 use Rattle.rules.specs.Step.{stamped, Quiet, Does, Accepted}
 use Rattle.rules.proofs.Outcomes.{outcome-by}
 use Rattle.rules.proofs.Blocks.{ofBlock, of-block, image-by}
@@ -57,9 +58,9 @@ module _ (s : List ℕ) (was a b : Words) (n m : ℕ) (p : Start s was a n) (q :
           let z : key s n ≡ key s m = omega (arith, u .0, v .0) in
           omega (arith, u .1 z, v .1 (sym z))
 
-  start-one : n ≡ m → (n < 32) ⊎ (n ≡ 32) → Agree a b
-  start-one e (inl l) = by-only was a b (SLOT ∷ []) (p .rest) (q .rest) (p .slot l ∙ e ∙ sym (q .slot (omega arith)), tt)
-  start-one e (inr z) = by-only was a b (SLOT ∷ []) (p .rest) (q .rest) (p .idle z ∙ sym (q .idle (sym e ∙ z)), tt)
+  start-one : n ≡ m → Agree a b
+  start-one e =
+      by-only was a b (SLOT ∷ []) (p .rest) (q .rest) (p .slot ∙ ap (λ (k : ℕ). cond (ltb k 32) k (was SLOT)) e ∙ sym (q .slot), tt)
 
 -- ---- mailbox bytes
 
@@ -147,7 +148,7 @@ module _ (s e : List ℕ) (a b : Words) (o u : Result) (bo : Bytes (o .image)) (
           go (no l) = p .heard h .rec-falls (omega arith) ∙ sym (q .heard h .rec-falls (omega arith))
 
       asleep : onBus was ≡ false → (t : Bool) → (was MODE is 2 && was OPTIONS has 1) ≡ t → Agree a b
-      asleep h false z = by-only was a b [] (p .sleeps h z) (q .sleeps h z) tt
+      asleep h false z = by-only was a b [] (p .stays h z) (q .stays h z) tt
       asleep h true z =
           let x = p .wakes z in
           let y = q .wakes z in
@@ -220,22 +221,20 @@ module _ (s e : List ℕ) (a b : Words) (o u : Result) (bo : Bytes (o .image)) (
         let y = q .start h in
         let n = named (x .0) (y .0) (onBus was) refl (decLt (next s) 32) in
         record {
-          same-words = start-one s was a b (o .mailbox) (u .mailbox) (x .0) (y .0) (n .0) (n .1);
+          same-words = start-one s was a b (o .mailbox) (u .mailbox) (x .0) (y .0) n;
           same-boxes = kept s (o .image) (u .image) bo bu (x .2) (y .2);
-          same-mailbox = n .0;
+          same-mailbox = n;
           same-count = x .1 ∙ sym (y .1);
         }
       where
-        named : Start s was a (o .mailbox) → Start s was b (u .mailbox) → (z : Bool) → onBus was ≡ z → Dec (next s < 32)
-            → (o .mailbox ≡ u .mailbox) × ((o .mailbox < 32) ⊎ (o .mailbox ≡ 32))
-        named x y false z d = (x .off z ∙ sym (y .off z), inr (x .off z))
+        named : Start s was a (o .mailbox) → Start s was b (u .mailbox) → (z : Bool) → onBus was ≡ z → Dec (next s < 32) → o .mailbox ≡ u .mailbox
+        named x y false z d = x .off z ∙ sym (y .off z)
         named x y true z (yes l) =
-            let c : candidate was (next s) ≡ true = sym (candidate-same s (next s)) ∙ next-is s z .named l in
-            (both s was a b (o .mailbox) (u .mailbox) x y z (next s) l c, inl (x .some z (next s) l c .0))
+            both s was a b (o .mailbox) (u .mailbox) x y z (next s) l (sym (candidate-same s (next s)) ∙ next-is s z .named l)
         named x y true z (no l) =
             let none : (n : ℕ) → n < 32 → candidate was n ≡ false =
             λ n k. sym (candidate-same s n) ∙ next-is s z .nobody (omega (arith, next-most s)) n k in
-            (x .none none ∙ sym (y .none none), inr (x .none none))
+            x .none none ∙ sym (y .none none)
 
     outcome-both : operation e ≡ 4 → Both a b o u
     outcome-both h = at (ℕ-discrete (target e) 0) (ℕ-discrete (target e) 1)
@@ -277,7 +276,7 @@ module _ (s e : List ℕ) (a b : Words) (o u : Result) (bo : Bytes (o .image)) (
         let y = q .mailbox h in
         record {
           same-words = by-only was a b [] (x .1) (y .1) tt;
-          same-boxes = box-write-one s (o .image) (u .image) bo bu (target e) (part e) (value e) (x .0) (y .0);
+          same-boxes = box-write-one s (o .image) (u .image) bo bu (target e) (word e) (value e) (x .0) (y .0);
           same-mailbox = x .2 .0 ∙ sym (y .2 .0);
           same-count = x .2 .1 ∙ sym (y .2 .1);
         }

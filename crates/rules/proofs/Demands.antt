@@ -16,10 +16,9 @@ use Rattle.refusals.specs.Refusal.{refusal}
 use Rattle.model.specs.Step.{step}
 use Rattle.model.proofs.Kept.{step-good}
 use Rattle.rules.specs.Words.{words, box, _has_, BoxesStayBut, MD}
-use Rattle.rules.specs.Image.{Good}
+use Rattle.rules.specs.Image.{Good, onBus}
 use Rattle.rules.specs.Events.{operation, Applies, FirstRefusal}
 use Rattle.rules.specs.Receiving.{First, Frame}
-use Rattle.rules.specs.Sending.{onBus}
 use Rattle.rules.specs.Step.{Accepted}
 use Rattle.rules.specs.Calls.{FreshCall, StepCall}
 use Rattle.rules.specs.Demands.{Demand1, Demand2}

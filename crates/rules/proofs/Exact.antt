@@ -3,8 +3,8 @@ use mathlib.Core.Path.{sym, subst}
 use Rattle.fresh.specs.Fresh.{fresh}
 use Rattle.reading.specs.Read.{read}
 use Rattle.model.specs.Step.{step}
-use Rattle.rules.specs.Step.{Fresh, Rules}
 use Rattle.rules.specs.Reading.{Reads}
+use Rattle.rules.specs.Step.{Fresh, Rules}
 use Rattle.rules.specs.Exact.{Exact}
 use Rattle.rules.proofs.Reading.{reads, read-one}
 use Rattle.rules.proofs.Fresh.{fresh-meets, fresh-one}

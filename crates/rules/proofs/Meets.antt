@@ -28,10 +28,10 @@ use Rattle.answers.specs.Answer.{Outcome as Result}
 use Rattle.model.specs.Step.{own, goes, delivered, acted, blockAfter, postmarked, rewritten, mailboxesAfter, named, accepted}
 use Rattle.model.proofs.Kept.{Taken as TakenEvent, taken, boxes-after, block-after, accepted-good}
 use Rattle.rules.specs.Words.{Words, words, Only, BoxesStayBut, atMost, OPTIONS}
-use Rattle.rules.specs.Events.{operation, target, part, value}
+use Rattle.rules.specs.Events.{operation, target, word, value, Answers}
 use Rattle.rules.specs.Writing.{Write, BoxWrite}
 use Rattle.rules.specs.Receiving.{Frame}
-use Rattle.rules.specs.Sending.{Answers, Start, Sent, Unsent, ReceiveError, Recessive, Tick, Mode, Ending}
+use Rattle.rules.specs.Sending.{Start, Sent, Unsent, ReceiveError, Recessive, Tick, Mode, Ending}
 use Rattle.rules.specs.Fresh.{FreshWords}
 use Rattle.rules.specs.Step.{stamped, Quiet, Does, Accepted}
 use Rattle.rules.proofs.Blocks.{ofBlock, of-block}
@@ -151,8 +151,8 @@ module _ (s e : List ℕ) (bytes : Bytes s) (small-bytes : Bytes e) (g : goodIma
       record {
         register = of 0 (λ v. Write (target e) (value e) (ofBlock (blockOf s)) (mid s v) × Quiet s (accepted s v)) (does-register s (target e) (value e));
         mailbox =
-            of 1 (λ v. BoxWrite (target e) (part e) (value e) s (accepted s v .image) × Only [] (ofBlock (blockOf s)) (mid s v) × Answers 32 0 (accepted s v))
-            (does-mailbox s (target e) (part e) (value e));
+            of 1 (λ v. BoxWrite (target e) (word e) (value e) s (accepted s v .image) × Only [] (ofBlock (blockOf s)) (mid s v) × Answers 32 0 (accepted s v))
+            (does-mailbox s (target e) (word e) (value e));
         frame = of 2 (λ v. Frame s e (ofBlock (blockOf s)) (mid s v) (accepted s v)) (does-frame s e small-bytes);
         start = of 3 (λ v. Start s (ofBlock (blockOf s)) (mid s v) (accepted s v .mailbox) × (accepted s v .count ≡ 0) × BoxesStayBut 32 s (accepted s v .image)) (does-start s);
         sent =

@@ -45,9 +45,8 @@ use Rattle.answers.specs.Answer.{Outcome as Result}
 use Rattle.model.specs.Step.{delivered, stowed, namedBy, countOf}
 use Rattle.model.proofs.Meets.{calm}
 use Rattle.rules.specs.Words.{_has_, _is_, words, box, byte, Only, BoxesStayBut, TRS, RMP, RML, LAM, GAM, RFP, MBRIF, GIF, REC, MODE}
-use Rattle.rules.specs.Events.{value, target, rtr}
+use Rattle.rules.specs.Events.{value, target, rtr, Answers}
 use Rattle.rules.specs.Receiving.{compared, matters, freed, Matches, First, countTo, Stored, Heard, Frame}
-use Rattle.rules.specs.Sending.{Answers}
 use Rattle.rules.proofs.Blocks.{ofBlock, only}
 
 -- ---- bits of a field
@@ -394,7 +393,7 @@ module _ (s e : List ℕ) (g : GoodImage s) (by : Bytes e) (ok : FrameAllowed (f
       record {
         heard = heard;
         unheard = λ h. subst (λ (d : Delivery). Answers 32 0 (out d) × BoxesStayBut 32 s (out d .image)) (sym (unheard s fx h)) (nowhere 0);
-        sleeps = λ h z. subst (λ (d : Delivery). Only [] (ofBlock b0) (ofBlock (left d))) (sym (unheard s fx h)) (quiet h z);
+        stays = λ h z. subst (λ (d : Delivery). Only [] (ofBlock b0) (ofBlock (left d))) (sym (unheard s fx h)) (quiet h z);
         wakes =
             λ z.
             subst

@@ -29,7 +29,7 @@ use Rattle.good.specs.Good.{goodImage}
 use Rattle.good.proofs.Image.{GoodImage, image-facts}
 use Rattle.refusals.specs.Refusal as product
 use Rattle.rules.specs.Words.{Words, words, _has_, _is_, byte, box, any}
-use Rattle.rules.specs.Events.{operation, target, part, value, rtr, unknown, asleep, unused, registerBad, wordBad, bad, turned, busy, locked, pointless}
+use Rattle.rules.specs.Events.{operation, target, word, value, rtr, unknown, asleep, unused, registerBad, wordBad, bad, turned, busy, locked, pointless}
 use Rattle.rules.proofs.Any.{any-word}
 use Rattle.rules.proofs.Blocks.{ofBlock, of-block}
 
@@ -161,11 +161,11 @@ module _ (e : List ℕ) (b : Bytes e) where
 
   quiet-same : (x y z : Bool) (n : ℕ) (u : ℕ → Bool) → n ≤ 8 → ((i : ℕ) → i < 8 → u i ≡ ltb i n)
       → not (quiet e x y z n)
-      ≡ (not x && not (target e is 0) || not y && not (part e is 0) || not (byte e 3 is 0) || not z && not (value e is 0) || not (allBelow (λ i. u i || byte e (8 + i) is 0) 8))
+      ≡ (not x && not (target e is 0) || not y && not (word e is 0) || not (byte e 3 is 0) || not z && not (value e is 0) || not (allBelow (λ i. u i || byte e (8 + i) is 0) 8))
   unfolding quiet
   quiet-same x y z n u l h =
-      five (x || target e is 0) (y || part e is 0) (byte e 3 is 0) (z || value e is 0) (eqb (payload e / 2 ^ (8 * n)) 0)
-      ∙ rw (not-or x (target e is 0), not-or y (part e is 0), not-or z (value e is 0), data-same n l u h)
+      five (x || target e is 0) (y || word e is 0) (byte e 3 is 0) (z || value e is 0) (eqb (payload e / 2 ^ (8 * n)) 0)
+      ∙ rw (not-or x (target e is 0), not-or y (word e is 0), not-or z (value e is 0), data-same n l u h)
 
   none : (i : ℕ) → i < 8 → false ≡ ltb i 0
   none i l = sym (le-ltb i 0 (omega arith))
@@ -194,13 +194,13 @@ module _ (e : List ℕ) (b : Bytes e) where
 
   no-data : (x y z : Bool)
       → not (quiet e x y z 0)
-      ≡ (not x && not (target e is 0) || not y && not (part e is 0) || not (byte e 3 is 0) || not z && not (value e is 0) || not (allBelow (λ i. false || byte e (8 + i) is 0) 8))
+      ≡ (not x && not (target e is 0) || not y && not (word e is 0) || not (byte e 3 is 0) || not z && not (value e is 0) || not (allBelow (λ i. false || byte e (8 + i) is 0) 8))
   no-data x y z = quiet-same x y z 0 (λ i. false) (omega arith) none
 
   fourths : (k : ℕ) → k < 11 → Fourth k
   fourths =
       each Fourth 11
-      ((((((((((((tt, fourth 0 (no-data true false true) (register-bad (target e) (value e) (word-lt e b 4) ∙ pad4 _)), fourth 1 (no-data true true true) (word-bad (part e) (value e) ∙ pad3 _)), fourth 2 (quiet-same true false true _ (λ i. not (rtr e) && ltb i (target e)) (most (rtr e)) in-frame) (frame-bad e ∙ pad2 _)), fourth 3 (no-data false false false) refl), fourth 4 (no-data true false false) refl), fourth 5 (no-data false false true) (pad1 _)), fourth 6 (no-data false false false) refl), fourth 7 (no-data false false false) refl), fourth 8 (no-data false false true) (not-leb (value e) 3)), fourth 9 (no-data false false true) (not-leb (value e) 3)), fourth 10 (no-data false false false) refl))
+      ((((((((((((tt, fourth 0 (no-data true false true) (register-bad (target e) (value e) (word-lt e b 4) ∙ pad4 _)), fourth 1 (no-data true true true) (word-bad (word e) (value e) ∙ pad3 _)), fourth 2 (quiet-same true false true _ (λ i. not (rtr e) && ltb i (target e)) (most (rtr e)) in-frame) (frame-bad e ∙ pad2 _)), fourth 3 (no-data false false false) refl), fourth 4 (no-data true false false) refl), fourth 5 (no-data false false true) (pad1 _)), fourth 6 (no-data false false false) refl), fourth 7 (no-data false false false) refl), fourth 8 (no-data false false true) (not-leb (value e) 3)), fourth 9 (no-data false false true) (not-leb (value e) 3)), fourth 10 (no-data false false false) refl))
 
 -- ---- refusal 2
 
@@ -236,8 +236,8 @@ module _ (e : List ℕ) where
 
   second-1 : Second 1
   second-1 =
-      ap (λ (x : Bool). l16 || x) (not-and (leb (target e) 31) (leb (part e) 3) ∙ ap₂ _||_ (not-leb (target e) 31) (not-leb (part e) 3))
-      ∙ at-1 l16 (ltb 31 (target e) || ltb 3 (part e))
+      ap (λ (x : Bool). l16 || x) (not-and (leb (target e) 31) (leb (word e) 3) ∙ ap₂ _||_ (not-leb (target e) 31) (not-leb (word e) 3))
+      ∙ at-1 l16 (ltb 31 (target e) || ltb 3 (word e))
 
   second-4 : Second 4
   second-4 = ap (λ (x : Bool). l16 || x) (not-leb (target e) 2) ∙ at-4 l16 (ltb 2 (target e))

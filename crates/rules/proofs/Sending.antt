@@ -105,8 +105,7 @@ module _ (b : Block) where
   unfolding worsened risen
   receive-error v =
       record {
-        heard = λ h. rw h;
-        unheard = λ h. rw h;
+        rec = refl;
         gif = gif-rises b (worsened b v) nothing (λ n. sym (or-false (bit (b .gif) n)));
         rest = only (REC ∷ GIF ∷ []) b _ refl;
       }
@@ -116,8 +115,7 @@ module _ (b : Block) where
   mode-asked m =
       let e = calm b (asked b m) refl (omega arith) in
       record {
-        present = λ h. ap (λ (x : Block). x .waiting) e ∙ rw (eq-eqb m (b .mode) h);
-        other = λ h. ap (λ (x : Block). x .waiting) e ∙ rw (ne-eqb m (b .mode) h);
+        waiting = ap (λ (x : Block). x .waiting) e;
         rest = λ k z. ap (λ (x : Block). ofBlock x k) e ∙ only (WAITING ∷ []) b (asked b m) refl k z;
       }
 

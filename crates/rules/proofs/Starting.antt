@@ -6,7 +6,6 @@ use mathlib.Core.List.{List, [], _∷_}
 use native.Mathlib.Decide.{decLt}
 use native.Mathlib.Omega.{arith}
 use lib.Dec.{ltb}
-use borrow.Author.Tests.{lt-ltb}
 use Rattle.bits.specs.Bit.{bit, flag}
 use Rattle.registers.specs.declared.Block.{Block}
 use Rattle.registers.specs.Block.{blockOf}
@@ -75,11 +74,14 @@ module _ (s : List ℕ) where
         smallest =
             λ h m n l c.
             rw (key-same (next s), key-same n) (next-is s h .by-key (some-chosen h n l c) m n l (candidate-same n ∙ c));
-        slot = λ l. ap (λ (x : Block). x .slot) q ∙ rw (lt-ltb (next s) 32 l);
-        idle = λ e. ap (λ (x : Block). x .slot) q ∙ rw e;
+        slot = ap (λ (x : Block). x .slot) q ∙ into (ltb (next s) 32);
         rest = λ k o. ap (λ (x : Block). ofBlock x k) q ∙ rests (next s) k o;
       }
     where
+      into : (t : Bool) → cond t (started b (next s)) b .slot ≡ cond t (next s) (b .slot)
+      into true = refl
+      into false = refl
+
       rests : (n : ℕ) → Only (SLOT ∷ []) (ofBlock b) (ofBlock (startedWith b n))
       rests n = at (ltb n 32)
         where

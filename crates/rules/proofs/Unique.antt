@@ -11,8 +11,9 @@ use Rattle.bits.specs.Below.{allBelow}
 use Rattle.bits.proofs.Laws.{same-bits}
 use Rattle.bits.proofs.Below.{each-below}
 use Rattle.rules.specs.Words.{Words, _has_, _is_, among, Only, MC, LAM, GAM, CDR, MBIM, GIM, BCR1, BCR2, MBRIF, RMP, RML, RFP, MD, TRS, TRR, TA, AA, MBTIF, GIF, TSC, TEC, REC, MODE, WAITING, SLOT, RECOVERY, TSO}
+use Rattle.rules.specs.Image.{busOff}
 use Rattle.rules.specs.Writing.{Write}
-use Rattle.rules.specs.Sending.{busOff, Gif, nothing, Tick, Recessive, Sent, Unsent, ReceiveError, Mode, Ending, taken, onBus}
+use Rattle.rules.specs.Sending.{Gif, nothing, Tick, Recessive, Sent, Unsent, ReceiveError, Mode, Ending, taken}
 use Rattle.rules.specs.Fresh.{FreshWords}
 use Rattle.rules.proofs.Blocks.{All, among-all, every-word}
 
@@ -83,23 +84,13 @@ module _ (was a b : Words) where
           by-only (TEC ∷ REC ∷ RECOVERY ∷ []) (x .3) (y .3) (x .0 ∙ sym (y .0), (x .1 ∙ sym (y .1), (x .2 ∙ sym (y .2), tt)))
 
   pub receive-error-one : (v : ℕ) → ReceiveError v was a → ReceiveError v was b → Agree a b
-  receive-error-one v p q = at (onBus was) refl
-    where
-      together : a REC ≡ b REC → Agree a b
-      together r =
-          by-only (REC ∷ GIF ∷ []) (p .rest) (q .rest)
-          (r, (gif-same nothing (p .rest TEC refl ∙ sym (q .rest TEC refl)) r (p .gif) (q .gif), tt))
-
-      at : (t : Bool) → onBus was ≡ t → Agree a b
-      at true e = together (p .heard e ∙ sym (q .heard e))
-      at false e = together (p .unheard e ∙ sym (q .unheard e))
+  receive-error-one v p q =
+      let r = p .rec ∙ sym (q .rec) in
+      by-only (REC ∷ GIF ∷ []) (p .rest) (q .rest)
+      (r, (gif-same nothing (p .rest TEC refl ∙ sym (q .rest TEC refl)) r (p .gif) (q .gif), tt))
 
   pub mode-one : (v : ℕ) → Mode v was a → Mode v was b → Agree a b
-  mode-one v p q = at (ℕ-discrete v (was MODE))
-    where
-      at : Dec (v ≡ was MODE) → Agree a b
-      at (yes e) = by-only (WAITING ∷ []) (p .rest) (q .rest) (p .present e ∙ sym (q .present e), tt)
-      at (no d) = by-only (WAITING ∷ []) (p .rest) (q .rest) (p .other d ∙ sym (q .other d), tt)
+  mode-one v p q = by-only (WAITING ∷ []) (p .rest) (q .rest) (p .waiting ∙ sym (q .waiting), tt)
 
   -- ---- writing
 
@@ -110,21 +101,17 @@ module _ (was a b : Words) where
   takes-one v t e p q =
       by-only (t ∷ []) (p .takes e .1) (q .takes e .1) (p .takes e .0 ∙ sym (q .takes e .0), tt)
 
-  clears-one : (v t : ℕ) → among t (TA ∷ AA ∷ MBTIF ∷ MBRIF ∷ []) ≡ true → Same v t
+  clears-one : (v t : ℕ) → among t (TA ∷ AA ∷ MBTIF ∷ MBRIF ∷ GIF ∷ []) ≡ true → Same v t
   clears-one v t e p q =
-      by-only (t ∷ []) (p .clears e .1) (q .clears e .1) (flags t _ (p .clears e .0) (q .clears e .0), tt)
+      let x = p .clears e in
+      let y = q .clears e in
+      by-only (t ∷ TSO ∷ []) (x .2) (y .2) (flags t _ (x .0) (y .0), (x .1 ∙ sym (y .1), tt))
 
   md-one : (v : ℕ) → Same v MD
   md-one v p q = by-only (MD ∷ []) (p .md refl .1) (q .md refl .1) (flags MD _ (p .md refl .0) (q .md refl .0), tt)
 
   trs-one : (v : ℕ) → Same v TRS
   trs-one v p q = by-only (TRS ∷ []) (p .trs refl .1) (q .trs refl .1) (flags TRS _ (p .trs refl .0) (q .trs refl .0), tt)
-
-  gif-one : (v : ℕ) → Same v GIF
-  gif-one v p q =
-      let x = p .gif refl in
-      let y = q .gif refl in
-      by-only (GIF ∷ TSO ∷ []) (x .2) (y .2) (flags GIF _ (x .0) (y .0), (x .1 ∙ sym (y .1), tt))
 
   rmp-one : (v : ℕ) → Same v RMP
   rmp-one v p q =
@@ -149,7 +136,7 @@ module _ (was a b : Words) where
   pub write-one : (v t : ℕ) → t ≤ 19 → t ≢ 7 → t ≢ 10 → Same v t
   write-one v t h n7 n10 =
       among-all (Same v) writable
-      (takes-one v MC refl, (takes-one v LAM refl, (takes-one v GAM refl, (takes-one v CDR refl, (takes-one v MBIM refl, (takes-one v GIM refl, (takes-one v BCR1 refl, (takes-one v BCR2 refl, (takes-one v TSC refl, (clears-one v TA refl, (clears-one v AA refl, (clears-one v MBTIF refl, (clears-one v MBRIF refl, (md-one v, (trs-one v, (gif-one v, (rmp-one v, (trr-one v, tt)))))))))))))))))) t
+      (takes-one v MC refl, (takes-one v LAM refl, (takes-one v GAM refl, (takes-one v CDR refl, (takes-one v MBIM refl, (takes-one v GIM refl, (takes-one v BCR1 refl, (takes-one v BCR2 refl, (takes-one v TSC refl, (clears-one v TA refl, (clears-one v AA refl, (clears-one v MBTIF refl, (clears-one v MBRIF refl, (md-one v, (trs-one v, (clears-one v GIF refl, (rmp-one v, (trr-one v, tt)))))))))))))))))) t
       (rw (ne-eqb t 7 n7, ne-eqb t 10 n10) at (each-below (λ t. t is 7 || t is 10 || among t writable) 20 listed t (omega arith)))
 
 pub reset-one : (a b : Words) → FreshWords a → FreshWords b → Agree a b

@@ -29,7 +29,8 @@ module _ (b : Block) (v : ℕ) (high : b .trs < 2 ^ 31) where
   Takes t = (after t t ≡ v) × Only (t ∷ []) (ofBlock b) (after t)
 
   abbrev Clears : ℕ → Type 0
-  Clears t = ((n : ℕ) → (after t t has n) ≡ (ofBlock b t has n && not (v has n))) × Only (t ∷ []) (ofBlock b) (after t)
+  Clears t =
+      ((n : ℕ) → (after t t has n) ≡ (ofBlock b t has n && not (v has n))) × (after t TSO ≡ cond (t is GIF && v has 3) 0 (b .tso)) × Only (t ∷ TSO ∷ []) (ofBlock b) (after t)
 
   -- the slot's mailbox: an empty slot is 31, where no request is
   at-slot : (f : Bool → Bool) (n : ℕ) → (bit v n && bit (b .trs) n && f (bit (slotMask b) n)) ≡ (bit v n && bit (b .trs) n && f (eqb n (b .slot)))
@@ -71,12 +72,8 @@ module _ (b : Block) (v : ℕ) (high : b .trs < 2 ^ 31) where
             by TRS (λ now. ((n : ℕ) → (now TRS has n) ≡ (was TRS has n || v has n && not (was MD has n))) × Only (TRS ∷ []) was now)
             (requested-trs b v, only (TRS ∷ []) b _ refl) t;
         clears =
-            among-all Clears (TA ∷ AA ∷ MBTIF ∷ MBRIF ∷ [])
-            ((bit-without (b .ta) v, only (TA ∷ []) b _ refl), ((bit-without (b .aa) v, only (AA ∷ []) b _ refl), ((bit-without (b .mbtif) v, only (MBTIF ∷ []) b _ refl), ((bit-without (b .mbrif) v, only (MBRIF ∷ []) b _ refl), tt)))) t;
-        gif =
-            by GIF
-            (λ now. ((n : ℕ) → (now GIF has n) ≡ (was GIF has n && not (v has n))) × (now TSO ≡ cond (v has 3) 0 (was TSO)) × Only (GIF ∷ TSO ∷ []) was now)
-            (noted-gif b v, refl, only (GIF ∷ TSO ∷ []) b _ refl) t;
+            among-all Clears (TA ∷ AA ∷ MBTIF ∷ MBRIF ∷ GIF ∷ [])
+            ((bit-without (b .ta) v, refl, only (TA ∷ TSO ∷ []) b _ refl), ((bit-without (b .aa) v, refl, only (AA ∷ TSO ∷ []) b _ refl), ((bit-without (b .mbtif) v, refl, only (MBTIF ∷ TSO ∷ []) b _ refl), ((bit-without (b .mbrif) v, refl, only (MBRIF ∷ TSO ∷ []) b _ refl), ((noted-gif b v, refl, only (GIF ∷ TSO ∷ []) b _ refl), tt))))) t;
         rmp =
             by RMP
             (λ now. ((k n : ℕ) → among k (RMP ∷ RML ∷ RFP ∷ []) ≡ true → (now k has n) ≡ (was k has n && not (v has n))) × Only (RMP ∷ RML ∷ RFP ∷ []) was now) (

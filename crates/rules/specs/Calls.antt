@@ -22,7 +22,7 @@ FreshCall s exit answer = Call (Fresh s) exit answer
 abbrev pub StepCall : List ℕ → List ℕ → List ℕ → ℕ → Type 0
 StepCall s e exit answer = Call (Rules s e) exit answer
 
--- A read leaves the image alone; value and refusal are packed into its answer.
+-- A read is lent its image to be read only; value and refusal are packed into its answer.
 pub record ReadCall (s : List ℕ) (k answer : ℕ) : Type 0 where
   pub reading : Reading
   pub keeps : Reads s k reading

@@ -4,7 +4,7 @@ use Prim.Native.Nat.{ℕ, _+_, _*_, _%_, _≤_}
 use mathlib.Core.Path.{_≡_}
 use mathlib.Core.List.{List}
 use lib.ListN.{length, take}
-use Rattle.words.proofs.Bytes.{Bytes}
+use Rattle.words.specs.Bytes.{Bytes}
 use Rattle.rules.specs.Words.{BoxesStayBut}
 use Rattle.rules.specs.Image.{Good}
 use Rattle.rules.specs.Events.{operation, Applies, FirstRefusal}

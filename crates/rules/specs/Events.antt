@@ -6,6 +6,7 @@ use mathlib.Core.List.{List, [], _∷_}
 use lib.Dec.{ltb, leb}
 use lib.ListN.{length}
 use Rattle.bits.specs.Below.{allBelow}
+use Rattle.answers.specs.Answer.{Outcome}
 use Rattle.words.specs.Word.{wordAt}
 use Rattle.rules.specs.Words.{Words, _has_, _is_, words, box, byte, among, any, MC, MD, TRS, RML, LAM, GAM, RFP, CDR, GIF, GIM, BCR1, BCR2, TSC, MODE, SLOT}
 use Rattle.rules.specs.Image.{Good}
@@ -18,8 +19,8 @@ operation e = byte e 0
 abbrev pub target : List ℕ → ℕ
 target e = byte e 1
 
-abbrev pub part : List ℕ → ℕ
-part e = byte e 2
+abbrev pub word : List ℕ → ℕ
+word e = byte e 2
 
 abbrev pub value : List ℕ → ℕ
 value e = wordAt e 4
@@ -34,7 +35,7 @@ unknown op e =
     not (length e is 16)
     || ltb 10 op
     || op is 0 && (ltb 19 (target e) || target e is RML || target e is RFP)
-    || op is 1 && (ltb 31 (target e) || ltb 3 (part e))
+    || op is 1 && (ltb 31 (target e) || ltb 3 (word e))
     || op is 4 && ltb 2 (target e)
 
 -- Refusal 3: asleep, nothing is written and no option is set.
@@ -46,7 +47,7 @@ asleep op w = among op (0 ∷ 1 ∷ 9 ∷ []) && w MODE is 2
 abbrev pub unused : ℕ → List ℕ → Bool
 unused op e =
     not (among op (0 ∷ 1 ∷ 2 ∷ 4 ∷ [])) && not (target e is 0)
-    || not (op is 1) && not (part e is 0)
+    || not (op is 1) && not (word e is 0)
     || not (byte e 3 is 0)
     || not (among op (0 ∷ 1 ∷ 2 ∷ 5 ∷ 8 ∷ 9 ∷ [])) && not (value e is 0)
     || not (allBelow (λ i. op is 2 && (not (rtr e) && ltb i (target e)) || byte e (8 + i) is 0) 8)
@@ -69,7 +70,7 @@ wordBad j v = j is 0 && (not (v has 31) && not (v % 2 ^ 18 is 0)) || j is 1 && (
 abbrev pub bad : ℕ → List ℕ → Bool
 bad op e =
     op is 0 && registerBad (target e) (value e)
-    || op is 1 && wordBad (part e) (value e)
+    || op is 1 && wordBad (word e) (value e)
     || op is 2 && (ltb 8 (target e) || value e has 29 || not (value e has 31) && not (value e % 2 ^ 18 is 0))
     || op is 5 && not (value e is 1 || value e is 8)
     || among op (8 ∷ 9 ∷ []) && ltb 3 (value e)
@@ -98,7 +99,7 @@ abbrev pub locked : ℕ → Words → ℕ → List ℕ → Bool
 locked op w box0 e =
     op is 0 && target e is MD && any (λ n. w MC has n && turned w (value e) n)
     || op is 0 && among (target e) (BCR1 ∷ BCR2 ∷ []) && not (w MODE is 1)
-    || op is 1 && w MC has target e && (part e is 0 || leb 2 (part e) && (w MD has target e || box0 has 29 && not (w CDR has target e)))
+    || op is 1 && w MC has target e && (word e is 0 || leb 2 (word e) && (w MD has target e || box0 has 29 && not (w CDR has target e)))
     || op is 8 && not (value e is w MODE) && not (w MODE is 0) && not (value e is 0)
     || op is 8 && not (value e is w MODE) && w MODE is 1 && untimed (w BCR2)
 
@@ -120,3 +121,7 @@ pub data Applies (s e : List ℕ) (r : ℕ) : Type 0 where
 pub record FirstRefusal (s e : List ℕ) (r : ℕ) : Type 0 where
   pub applies : Applies s e r
   pub before : (k : ℕ) → k < r → Applies s e k → ⊥
+
+-- What a step or a fresh answers besides its refusal: a mailbox and a count.
+abbrev pub Answers : ℕ → ℕ → Outcome → Type 0
+Answers n c o = (o .mailbox ≡ n) × (o .count ≡ c)

@@ -3,7 +3,7 @@ use Prim.Native.Nat.{ℕ}
 use mathlib.Core.Path.{_≡_}
 use mathlib.Core.List.{List}
 use mathlib.Core.Logic.{_↔_}
-use Rattle.words.proofs.Bytes.{Bytes}
+use Rattle.words.specs.Bytes.{Bytes}
 use Rattle.answers.specs.Answer.{Outcome, Reading}
 use Rattle.fresh.specs.Fresh.{fresh}
 use Rattle.model.specs.Step.{step}

@@ -1,11 +1,12 @@
--- "The image": what makes an image good.
+-- "The image": what makes an image good; and what its counters and its mode say.
 use Prim.Native.Nat.{ℕ, _%_, _^_, _<_, _≤_}
 use mathlib.Core.Path.{_≡_}
-use mathlib.Core.Bool.{true, false}
+use mathlib.Core.Bool.{Bool, true, false, _&&_, _||_}
+use lib.Dec.{ltb}
 use mathlib.Core.List.{List, [], _∷_}
 use mathlib.Core.Logic.{_≢_}
 use lib.ListN.{length}
-use Rattle.rules.specs.Words.{Words, _has_, words, box, among, MC, MD, TRS, TRR, TA, AA, RMP, RML, LAM, GAM, RFP, CDR, MBTIF, GIF, GIM, BCR1, BCR2, TSC, TEC, REC, MODE, WAITING, SLOT, RECOVERY, OPTIONS, TSO}
+use Rattle.rules.specs.Words.{Words, _has_, _is_, words, box, among, MC, MD, TRS, TRR, TA, AA, RMP, RML, LAM, GAM, RFP, CDR, MBTIF, GIF, GIM, BCR1, BCR2, TSC, TEC, REC, MODE, WAITING, SLOT, RECOVERY, OPTIONS, TSO}
 
 -- The image, a mailbox: without IDE the low 18 bits of word 0 are zero; of word 1 bits 15 to 5 are zero and the DLC, its lowest four bits,
 -- is not above 8.
@@ -44,3 +45,17 @@ pub record Good (s : List ℕ) : Type 0 where
   pub size : length s ≡ 640
   pub layouts : (n : ℕ) → n < 32 → Layout s n
   pub registers : GoodWords (words s)
+
+-- Sending, errors, modes: what the counters and the mode say of the unit: bus off; passive; warning.
+abbrev pub busOff : Words → Bool
+busOff w = w TEC is 256
+
+abbrev pub passive : Words → Bool
+passive w = ltb 127 (w TEC) || ltb 127 (w REC)
+
+abbrev pub warning : Words → Bool
+warning w = ltb 96 (w TEC) || ltb 96 (w REC)
+
+-- On the bus: normal mode, not bus off.
+abbrev pub onBus : Words → Bool
+onBus w = w MODE is 0 && ltb (w TEC) 256

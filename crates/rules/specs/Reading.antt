@@ -5,9 +5,8 @@ use mathlib.Core.Bool.{false, not}
 use mathlib.Core.List.{List}
 use mathlib.Core.Logic.{_≢_}
 use Rattle.answers.specs.Answer.{Reading}
-use Rattle.rules.specs.Image.{Good}
-use Rattle.rules.specs.Sending.{busOff, passive, warning}
 use Rattle.rules.specs.Words.{_has_, _is_, Words, words, MODE, SLOT, TSO}
+use Rattle.rules.specs.Image.{Good, busOff, passive, warning}
 
 -- GSR, bit by bit.
 pub record Gsr (w : Words) (v : ℕ) : Type 0 where

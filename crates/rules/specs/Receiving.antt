@@ -7,8 +7,8 @@ use lib.Dec.{ltb, leb}
 use Rattle.bits.specs.Below.{countBelow}
 use Rattle.answers.specs.Answer.{Outcome}
 use Rattle.rules.specs.Words.{_has_, _is_, _has-bits_, Words, words, box, byte, Only, BoxesStayBut, MC, MD, TRS, RMP, RML, LAM, GAM, RFP, MBRIF, MBIM, GIF, TSC, REC, MODE, OPTIONS}
-use Rattle.rules.specs.Events.{target, value, rtr}
-use Rattle.rules.specs.Sending.{Answers, onBus}
+use Rattle.rules.specs.Image.{onBus}
+use Rattle.rules.specs.Events.{target, value, rtr, Answers}
 
 -- Is the frame compared with mailbox n? With enabled ones that receive; a remote frame with those that transmit too.
 abbrev pub compared : List ℕ → List ℕ → ℕ → Bool
@@ -74,5 +74,5 @@ rouses was = was MODE is 2 && was OPTIONS has 1
 pub record Frame (s e : List ℕ) (was now : Words) (o : Outcome) : Type 0 where
   pub heard : onBus was ≡ true → Heard s e was now o
   pub unheard : onBus was ≡ false → Answers 32 0 o × BoxesStayBut 32 s (o .image)
-  pub sleeps : onBus was ≡ false → rouses was ≡ false → Only [] was now
+  pub stays : onBus was ≡ false → rouses was ≡ false → Only [] was now
   pub wakes : rouses was ≡ true → (now MODE ≡ 0) × (now GIF has-bits (λ n. was GIF has n || n is 6)) × Only (MODE ∷ GIF ∷ []) was now

@@ -6,29 +6,11 @@ use mathlib.Core.Bool.{Bool, true, false, cond, not, _&&_, _||_}
 use mathlib.Core.List.{List, [], _∷_}
 use mathlib.Core.Logic.{_≢_}
 use lib.Dec.{ltb}
-use Rattle.answers.specs.Answer.{Outcome}
 use Rattle.rules.specs.Words.{_has_, _is_, _has-bits_, Words, box, atMost, Only, MC, TRS, TRR, TA, AA, CDR, MBTIF, MBIM, GIF, TSC, TEC, REC, MODE, WAITING, SLOT, RECOVERY, OPTIONS, TSO}
+use Rattle.rules.specs.Image.{busOff, passive, warning, onBus}
 
--- What a call answers: a mailbox and a count.
-abbrev pub Answers : ℕ → ℕ → Outcome → Type 0
-Answers n c o = (o .mailbox ≡ n) × (o .count ≡ c)
-
--- Errors: bus off; passive; warning.
-abbrev pub busOff : Words → Bool
-busOff w = w TEC is 256
-
-abbrev pub passive : Words → Bool
-passive w = ltb 127 (w TEC) || ltb 127 (w REC)
-
-abbrev pub warning : Words → Bool
-warning w = ltb 96 (w TEC) || ltb 96 (w REC)
-
--- On the bus: normal mode, not bus off.
-abbrev pub onBus : Words → Bool
-onBus w = w MODE is 0 && ltb (w TEC) 256
-
--- GIF after an event: a bit is up where it was, where the event raises it, and, bits 2, 1 and 0, where bus off, passive or warning holds
--- now and did not before.
+-- GIF after an event that moves a counter or TSC: a bit is up where it was, where the event raises it, and, bits 2, 1 and 0, where bus off,
+-- passive or warning holds now and did not before. No other event lifts a counter, so there none of the three can rise.
 abbrev pub Gif : (ℕ → Bool) → Words → Words → Type 0
 Gif raised was now =
     now GIF has-bits (λ n. was GIF has n
@@ -53,7 +35,7 @@ key s n =
     box s n 0 / 2 ^ 18 % 2 ^ 11 * 2 ^ 21 + cond (ide || rtr) (2 ^ 20) 0 + cond ide (2 ^ 19) 0 + cond ide (box s n 0 % 2 ^ 18 * 2 + cond rtr 1 0) 0
 
 -- A start names the mailbox that goes into the slot: on the bus the lowest candidate, or with MTOS (option bit 0) the one with the smallest
--- key, the lower of two equal ones. With no candidate, and off the bus, it names 32 and nothing changes.
+-- key, the lower of two equal ones. With no candidate, or off the bus, it names 32 and nothing changes.
 pub record Start (s : List ℕ) (was now : Words) (named : ℕ) : Type 0 where
   pub off : onBus was ≡ false → named ≡ 32
   pub none : ((n : ℕ) → n < 32 → candidate was n ≡ false) → named ≡ 32
@@ -61,8 +43,7 @@ pub record Start (s : List ℕ) (was now : Words) (named : ℕ) : Type 0 where
   pub lowest : onBus was ≡ true → was OPTIONS has 0 ≡ false → (n : ℕ) → n < 32 → candidate was n ≡ true → named ≤ n
   pub smallest : onBus was ≡ true → was OPTIONS has 0 ≡ true → (n : ℕ) → n < 32 → candidate was n ≡ true
       → (key s named ≤ key s n) × (key s named ≡ key s n → named ≤ n)
-  pub slot : named < 32 → now SLOT ≡ named
-  pub idle : named ≡ 32 → now SLOT ≡ was SLOT
+  pub slot : now SLOT ≡ cond (ltb named 32) named (was SLOT)
   pub rest : Only (SLOT ∷ []) was now
 
 -- Sent: the slot is empty and the request is over, which TA tells, and MBTIF where MBIM asks for it; TEC falls by one if it can.
@@ -89,8 +70,7 @@ pub record Unsent (t : ℕ) (was now : Words) : Type 0 where
 
 -- A receive error, on the bus, adds to REC, which stops at 255.
 pub record ReceiveError (more : ℕ) (was now : Words) : Type 0 where
-  pub heard : onBus was ≡ true → now REC ≡ atMost 255 (was REC + more)
-  pub unheard : onBus was ≡ false → now REC ≡ was REC
+  pub rec : now REC ≡ cond (onBus was) (atMost 255 (was REC + more)) (was REC)
   pub gif : Gif nothing was now
   pub rest : Only (REC ∷ GIF ∷ []) was now
 
@@ -110,8 +90,7 @@ pub record Tick (was now : Words) : Type 0 where
 
 -- A mode that is asked for waits in place of an earlier one, until the end of this step at least. Asking for the present mode leaves none.
 pub record Mode (asked : ℕ) (was now : Words) : Type 0 where
-  pub present : asked ≡ was MODE → now WAITING ≡ 4
-  pub other : asked ≢ was MODE → now WAITING ≡ asked
+  pub waiting : now WAITING ≡ cond (asked is was MODE) 4 asked
   pub rest : Only (WAITING ∷ []) was now
 
 -- At the end of a step: is a mode waiting, and may it be taken? With an empty slot, and not in bus off.

@@ -6,10 +6,10 @@ use mathlib.Core.Logic.{_≢_}
 use lib.ListN.{length}
 use Rattle.answers.specs.Answer.{Outcome}
 use Rattle.rules.specs.Words.{Words, words, byte, box, atMost, Only, BoxesStayBut, TSC, TEC, SLOT, OPTIONS}
-use Rattle.rules.specs.Events.{operation, target, part, value, Applies, FirstRefusal}
+use Rattle.rules.specs.Events.{operation, target, word, value, Applies, FirstRefusal, Answers}
 use Rattle.rules.specs.Writing.{Write, BoxWrite}
 use Rattle.rules.specs.Receiving.{Frame}
-use Rattle.rules.specs.Sending.{Answers, Start, Sent, Unsent, ReceiveError, Recessive, Tick, Mode, Ending}
+use Rattle.rules.specs.Sending.{Start, Sent, Unsent, ReceiveError, Recessive, Tick, Mode, Ending}
 use Rattle.rules.specs.Fresh.{FreshWords}
 
 -- The events: an accepted one answers mailbox 32 and count 0 where nothing else is said. Here no mailbox byte changes either.
@@ -24,7 +24,7 @@ stamped s n = words s TSC * 65536 + box s n 1 % 65536
 -- an error adds 8 to TEC, which stops at 256.
 pub record Does (s e : List ℕ) (was now : Words) (o : Outcome) : Type 0 where
   pub register : operation e ≡ 0 → Write (target e) (value e) was now × Quiet s o
-  pub mailbox : operation e ≡ 1 → BoxWrite (target e) (part e) (value e) s (o .image) × Only [] was now × Answers 32 0 o
+  pub mailbox : operation e ≡ 1 → BoxWrite (target e) (word e) (value e) s (o .image) × Only [] was now × Answers 32 0 o
   pub frame : operation e ≡ 2 → Frame s e was now o
   pub start : operation e ≡ 3 → Start s was now (o .mailbox) × (o .count ≡ 0) × BoxesStayBut 32 s (o .image)
   pub sent : operation e ≡ 4 → target e ≡ 0 → Sent was now × BoxWrite (was SLOT) 1 (stamped s (was SLOT)) s (o .image) × Answers (was SLOT) 0 o

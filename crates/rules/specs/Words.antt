@@ -1,5 +1,6 @@
--- The vocabulary of the rulebook: bytes, words, bits; the register words by name; what stays. Of the product's other definitions it
--- takes four: the bit of a word, the word at a place in bytes, and "all" and "how many" below a bound.
+-- The vocabulary of the rulebook: bytes, words, bits; the register words by name; what stays. Of the product's other definitions the
+-- rulebook takes the bit of a word, the word at a place in bytes, "all" and "how many" below a bound, and what an outcome and a reading
+-- are made of.
 use Prim.Native.Nat.{ℕ, _+_, _*_, _<_, _≤_}
 use mathlib.Core.Path.{_≡_}
 use mathlib.Core.Bool.{Bool, false, cond, not, _||_}

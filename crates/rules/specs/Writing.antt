@@ -16,10 +16,8 @@ pub record Write (t v : ℕ) (was now : Words) : Type 0 where
   -- TRS: a 1 asks transmit mailboxes to send, and does nothing elsewhere
   pub trs : t ≡ TRS → (now TRS has-bits (λ n. was TRS has n || v has n && not (was MD has n))) × Only (TRS ∷ []) was now
   -- five registers lose the bits of the value; with bit 3 of GIF goes TSO
-  pub clears : among t (TA ∷ AA ∷ MBTIF ∷ MBRIF ∷ []) ≡ true
-      → (now t has-bits (λ n. was t has n && not (v has n))) × Only (t ∷ []) was now
-  pub gif : t ≡ GIF
-      → (now GIF has-bits (λ n. was GIF has n && not (v has n))) × (now TSO ≡ cond (v has 3) 0 (was TSO)) × Only (GIF ∷ TSO ∷ []) was now
+  pub clears : among t (TA ∷ AA ∷ MBTIF ∷ MBRIF ∷ GIF ∷ []) ≡ true
+      → (now t has-bits (λ n. was t has n && not (v has n))) × (now TSO ≡ cond (t is GIF && v has 3) 0 (was TSO)) × Only (t ∷ TSO ∷ []) was now
   -- RMP: a 1 releases the frame there, so its lost and remote flags fall too
   pub rmp : t ≡ RMP
       → ((k n : ℕ) → among k (RMP ∷ RML ∷ RFP ∷ []) ≡ true → (now k has n) ≡ (was k has n && not (v has n))) × Only (RMP ∷ RML ∷ RFP ∷ []) was now

@@ -6,9 +6,7 @@ use lib.Dec.{lit<}
 use lib.ListN.{getD, set, take, drop}
 use lib.Seq.{getD-drop}
 use Rattle.words.specs.Word.{wordAt, putWord, putWords}
-
-pub record Bytes (s : List ℕ) : Type 0 where
-  pub small : (i : ℕ) → getD s i 0 < 256
+pub use Rattle.words.specs.Bytes.{Bytes}
 
 pub bytes-tail : {a : ℕ} {s : List ℕ} → Bytes (a ∷ s) → Bytes s
 bytes-tail h = record { small = λ i. h .small (suc i) }
