@@ -2,7 +2,7 @@
 -- bit below 32 sees. The bytes of the mailboxes keep their length, whatever the event is.
 use Prim.Native.Nat.{ℕ, zero, suc, _+_, _-_, _*_, _/_, _%_, _^_, _<_}
 use mathlib.Core.Path.{_≡_, refl, sym, _∙_, ap}
-use mathlib.Core.Bool.{Bool, true, false, cond}
+use mathlib.Core.Bool.{Bool, true, false, cond, not, _&&_}
 use mathlib.Core.List.{List, [], _∷_, map}
 use native.Mathlib.Omega.{arith}
 use lib.Dec.{eqb, lit<}
@@ -13,7 +13,7 @@ use Rattle.bits.specs.Bit.{bit, digit}
 use Rattle.words.specs.Word.{putWord, putWords}
 use Rattle.words.proofs.Laws.{length-put}
 use Rattle.registers.specs.declared.Block.{Block}
-use Rattle.registers.specs.Block.{imageBytes, registersAt, blockOf, putBlock, ofWords, toWords}
+use Rattle.registers.specs.Block.{imageBytes, registersAt, emptySlot, blockOf, putBlock, ofWords, toWords}
 use Rattle.registers.proofs.Laws.{block-back}
 use Rattle.mailboxes.specs.Mailbox.{mailbox, withMailbox}
 use Rattle.mailboxes.specs.Filing.{filed, stamped}
@@ -75,9 +75,11 @@ put-block-cut s b = puts-cut s registersAt (toWords b)
 block-cut : (s : List ℕ) (b : Block) → length s ≡ imageBytes → blockOf (putBlock s b) ≡ cutBlock b
 block-cut s b h = ap blockOf (put-block-cut s b) ∙ block-back s (cutBlock b) h (λ j l. cut-small (toWords b) j)
 
-pub look-back : (m : ℕ) (s : List ℕ) (b : Block) → m < 32 → length s ≡ imageBytes → look m (blockOf (putBlock s b)) ≡ look m b
-look-back m s b hm h =
-    ap (look m) (block-cut s b h) ∙ (λ i. now (bit-cut (b .rmp) m hm i) (bit-cut (b .rml) m hm i) (bit-cut (b .trs) m hm i))
+pub look-back : (m : ℕ) (s : List ℕ) (b : Block) → m < 32 → length s ≡ imageBytes → b .slot < 32 → look m (blockOf (putBlock s b)) ≡ look m b
+look-back m s b hm h l =
+    let slot : cut (b .slot) ≡ b .slot = omega arith in
+    ap (look m) (block-cut s b h)
+    ∙ (λ i. now (bit-cut (b .rmp) m hm i) (bit-cut (b .rml) m hm i) (bit-cut (b .trs) m hm i) (not (eqb (slot i) emptySlot) && eqb m (slot i)) (bit-cut (b .trr) m hm i))
 
 -- ---- the length of an image after a step
 

@@ -1,40 +1,48 @@
 -- Each operation's block follows by its happenings; so does a whole step.
-use Prim.Native.Nat.{ℕ, _<_}
+use Prim.Native.Nat.{ℕ, _^_, _<_}
 use mathlib.Core.Path.{_≡_, refl, sym, _∙_, ap, subst}
-use mathlib.Core.Bool.{Bool, true, false, cond, not, _&&_, _||_, false≢true}
+use mathlib.Core.Bool.{Bool, true, false, cond, not, _&&_, _||_, false≢true, or-false, and-true}
 use mathlib.Core.List.{List, [], _∷_}
-use lib.Dec.{eqb, ltb}
-use lib.ListN.{length}
-use borrow.Author.Tests.{eqb-true}
+use mathlib.Core.Logic.{_≢_}
+use native.Mathlib.Omega.{arith}
+use lib.Dec.{eqb, ltb, leb, lit<}
+use lib.ListN.{getD, length}
+use borrow.Author.Tests.{eqb-true, eqb-false, ne-eqb, ltb-true, ltb-false, not-false}
 use Rattle.bits.specs.Bit.{bit, without}
 use Rattle.bits.specs.Tests.{every}
-use Rattle.bits.proofs.Laws.{bit-zero}
+use Rattle.bits.proofs.Laws.{bit-zero, bit-high}
 use Rattle.bits.proofs.Sets.{and-l, and-r}
-use Rattle.bits.proofs.Tests.{all, given}
+use Rattle.bits.proofs.Tests.{All, all, given}
 use Rattle.registers.specs.declared.Block.{Block}
-use Rattle.registers.specs.Block.{imageBytes, blockOf, withMc, withTa, withAa, withLam, withGam, withCdr, withMbtif, withMbrif, withMbim, withGim, withBcr1, withBcr2, withTsc}
+use Rattle.registers.specs.Block.{imageBytes, blockOf, withMc, withTa, withAa, withLam, withGam, withCdr, withMbtif, withMbrif, withMbim, withGim, withBcr1, withBcr2, withTsc, normal, noMode, busOffAt}
 use Rattle.fresh.specs.Fresh.{freshBlock}
-use Rattle.registers.specs.Status.{filled}
-use Rattle.registers.specs.Writes.{directed, requested, cancelled, released, noted, writes, written}
-use Rattle.registers.specs.Modes.{ticked, worsened, recessive, optioned, asked, risen, ready, fallsAsleep, entered, settled}
-use Rattle.registers.specs.Frames.{listened, stored, replied}
+use Rattle.registers.specs.Status.{vacant, filled, asleep, busOff}
+use Rattle.registers.specs.Writes.{slotMask, directed, requested, cancelled, released, noted, writes, written}
+use Rattle.registers.specs.Modes.{onBus, ticked, worsened, recessive, optioned, asked, risen, ready, fallsAsleep, entered, settled}
+use Rattle.registers.specs.Frames.{wakened, listened, stored, replied}
 use Rattle.registers.specs.Sending.{started, sent, failed}
-use Rattle.registers.proofs.Flags.{requested-trs, released-rmp, released-rml, ending-bit, cancelled-trs, slot-bit, stored-rmp, stored-rml, replied-trs, sent-trs, aborting-bit, failed-trs, entered-trs}
+use Rattle.registers.proofs.Flags.{requested-trs, released-rmp, released-rml, ending-bit, late-bit, cancelled-trs, cancelled-trr, slot-bit, stored-rmp, stored-rml, replied-trs, sent-trs, sent-trr, aborting-bit, failed-trs, failed-trr}
 use Rattle.events.specs.declared.Event.{Event}
 use Rattle.events.specs.declared.Event.the-variants.{Refused, Register, Mailbox, Heard, Start, Outcome, ReceiveError, Recessive, Tick, Mode, Options, Reset}
-use Rattle.events.specs.Decode.{event}
+use Rattle.events.specs.declared.Frame.{Frame}
+use Rattle.events.specs.Decode.{event, decoded}
 use Rattle.filter.specs.declared.Delivery.{Delivery}
 use Rattle.filter.specs.declared.Delivery.the-variants.{Into, Reply, Nowhere}
+use Rattle.filter.specs.Filter.{delivery}
+use Rattle.filter.proofs.Ways.{into, reply}
 use Rattle.sending.specs.Choice.{next}
-use Rattle.good.specs.Good.{contents, slotAsks, slotClauses, goodFlags, goodNumbers, goodSlot, goodBlock, goodImage}
+use Rattle.sending.proofs.Choice.{eligible-bit, next-is, next-off}
+use Rattle.good.specs.Good.{contents, lastNeverSends, slotAsks, waitsForReason, flagClauses, numberClauses, slotClauses, goodFlags, goodNumbers, goodSlot, goodBlock, goodImage}
+use Rattle.good.proofs.Facts.{slot-below}
 use Rattle.good.proofs.Image.{good-length}
 use Rattle.answers.specs.Answer.{noMailbox, refused}
-use Rattle.refusals.specs.Refusal.{refusal}
-use Rattle.refusals.proofs.Order.{refusal-bad}
-use Rattle.model.specs.Step.{startedWith, concluded, own, goes, remote, delivered, acted, blockAfter, mailboxesAfter, accepted, step}
-use Rattle.books.specs.Ledger.{store, acknowledge, request, cancel, send, abort, sleep, reset, after}
-use Rattle.books.specs.Happen.{when, inSlot, byWrite, byOutcome, direct, byFrame, dozes, happens, happenings}
-use Rattle.books.proofs.Follows.{look, Follows, none, both, choice, Rows, table, same, once, then}
+use Rattle.refusals.specs.Refusal.{refusal, remaining}
+use Rattle.refusals.proofs.Order.{refusal-bad, refusal-good}
+use Rattle.model.specs.Step.{startedWith, concluded, own, goes, delivered, acted, blockAfter, mailboxesAfter, namedBy, named, accepted, step}
+use Rattle.model.proofs.Whole.{real}
+use Rattle.books.specs.Ledger.{Happening, store, acknowledge, request, cancel, start, send, fail, sleep, reset, after}
+use Rattle.books.specs.Happen.{when, byWrite, byOutcome, direct, dozes, happens, happenings, inSlot}
+use Rattle.books.proofs.Follows.{look, Follows, Any, none, both, Rows, table, same, once, then}
 use Rattle.books.proofs.Back.{look-back, length-after}
 
 -- ---- the laws of one flag, as a choice
@@ -51,14 +59,27 @@ not-where true false = refl
 not-where false true = refl
 not-where false false = refl
 
--- a request ends where v has its bit and the slot does not
-ends-where : (x v t : Bool) → (x && not ((v && x) && not t)) ≡ cond (v && not t) false x
+-- where v has its bit, a request ends but in the slot, and there it is marked
+ends-where : (w v s : Bool) → (w && not ((v && w) && not s)) ≡ cond v (w && s) w
 ends-where true true true = refl
 ends-where true true false = refl
-ends-where true false t = refl
-ends-where false true true = refl
-ends-where false true false = refl
-ends-where false false t = refl
+ends-where true false s = refl
+ends-where false true s = refl
+ends-where false false s = refl
+
+marks-where : (c v w s : Bool) → (c || (v && w) && s) ≡ cond v (c || w && s) c
+marks-where c true w s = refl
+marks-where c false w s = or-false c
+
+-- what is not sent ends where it was marked, and the mark goes
+fails-where : (w t c : Bool) → (w && not (t && c)) ≡ cond t (w && not c) w
+fails-where w true c = refl
+fails-where w false c = and-true w
+
+unmarks-where : (c t : Bool) → (c && not (t && c)) ≡ cond t false c
+unmarks-where true true = refl
+unmarks-where true false = refl
+unmarks-where false t = same t false
 
 -- the lost flag goes up where a frame is stored over one that is held
 lost-where : (l h t : Bool) → (l || h && t) ≡ cond t (l || h) l
@@ -69,185 +90,323 @@ lost-where false true false = refl
 lost-where false false true = refl
 lost-where false false false = refl
 
--- ---- what is in the slot waits
+-- the slot: a mailbox comes into it, goes out of it, or was not there
+came : (t x : Bool) → x ≡ false → t ≡ cond t true x
+came true x e = refl
+came false x e = sym e
 
-module _ (s : List ℕ) (g : goodImage s ≡ true) where
-  block-good : goodBlock (blockOf s) ≡ true
-  unfolding goodImage
-  block-good = all (contents s) (and-r (eqb (length s) imageBytes) (every (contents s)) g) .1 .1 .0
+went : (t x : Bool) → x ≡ t → false ≡ cond t false x
+went true x e = refl
+went false x e = sym e
 
-  slot-good : goodSlot (blockOf s) ≡ true
+stays-out : (t x : Bool) → x ≡ false → x ≡ cond t false x
+stays-out true x e = e
+stays-out false x e = refl
+
+-- sleep: what was awake before a step (u) and is asleep after it fell asleep; without a mode to take, none does
+no-other : (u a : Bool) → (a ≡ true → u ≡ true) → (not u && a) ≡ false
+no-other true a h = refl
+no-other false true h = sym (h refl)
+no-other false false h = refl
+
+asleep-only : (u f : Bool) → (u ≡ true → f ≡ false) → (not u && f) ≡ f
+asleep-only true f h = sym (h refl)
+asleep-only false f h = refl
+
+zeroed : (m w : ℕ) (t : Bool) → bit (cond t 0 w) m ≡ cond t false (bit w m)
+zeroed m w true = bit-zero m
+zeroed m w false = refl
+
+-- ---- what a good image says of the slot and of sleep
+
+-- the slot's number is below 32
+abbrev Slotted : Block → Type 0
+Slotted b = b .slot < 32
+
+-- and up to the end of a step, where u says whether the unit was asleep before it: asleep now, it was so then; and then no sleep waits
+abbrev Sound : Bool → Block → Type 0
+Sound u b = Slotted b × (asleep b ≡ true → u ≡ true) × (u ≡ true → fallsAsleep b ≡ false)
+
+module _ (b : Block) (g : goodBlock b ≡ true) where
+  groups : All (goodFlags b ∷ goodNumbers b ∷ goodSlot b ∷ [])
   unfolding goodBlock
-  slot-good = all (goodFlags (blockOf s) ∷ goodNumbers (blockOf s) ∷ goodSlot (blockOf s) ∷ []) block-good .1 .1 .0
+  groups = all (goodFlags b ∷ goodNumbers b ∷ goodSlot b ∷ []) g
 
-  pub slot-asks : filled (blockOf s) ≡ true → bit (blockOf s .trs) (blockOf s .slot) ≡ true
+  -- mailbox 31 has no request
+  low : b .trs < 2 ^ 31
+  unfolding goodFlags
+  low = ltb-true _ _ (all (lastNeverSends b) (all (flagClauses b) (groups .0) .1 .0) .0)
+
+  -- what is in the slot is sent in normal mode, and has its request
+  asks : filled b ≡ true → All (slotAsks b)
   unfolding goodSlot
-  slot-asks f =
-      all (slotAsks (blockOf s)) (given (filled (blockOf s)) (every (slotAsks (blockOf s))) (all (slotClauses (blockOf s)) slot-good .1 .0) f) .1 .1 .0
+  asks f = all (slotAsks b) (given (filled b) (every (slotAsks b)) (all (slotClauses b) (groups .1 .1 .0) .1 .0) f)
 
--- the image's clause that the books need: the slot's mailbox has its request
-abbrev Asks : Block → Type 0
-Asks b = filled b ≡ true → bit (b .trs) (b .slot) ≡ true
+  sound : Sound (asleep b) b
+  unfolding goodNumbers
+  sound = (slot-below b g, λ z. z, λ z. ne-eqb (b .waiting) 2 (λ e. reason z (filled b) refl (waits-for (rw e))))
+    where
+      numbers : All (numberClauses b)
+      numbers = all (numberClauses b) (groups .1 .0)
 
-waits : (b : Block) (m : ℕ) → Asks b → inSlot b m ≡ true → bit (b .trs) m ≡ true
-waits b m g e =
-    ap (bit (b .trs)) (eqb-true m (b .slot) (and-r (filled b) (eqb m (b .slot)) e)) ∙ g (and-l (filled b) (eqb m (b .slot)) e)
+      -- a mode waits for the slot or for bus off, and both are of the normal mode
+      waits-for : not (eqb (b .waiting) noMode) ≡ true → (filled b || busOff b) ≡ true
+      waits-for = given (not (eqb (b .waiting) noMode)) (filled b || busOff b) (and-r (leb 1 (b .waiting)) (waitsForReason b) (numbers .1 .1 .1 .1 .0))
 
--- ---- one law for each operation that touches RMP, RML or TRS
+      reason : asleep b ≡ true → (t : Bool) → filled b ≡ t → (t || busOff b) ≡ true → ⊥
+      reason z true f h = omega (arith, eqb-true (b .mode) 2 z, eqb-true (b .mode) normal (asks f .0))
+      reason z false f h = omega (arith, eqb-true (b .mode) 2 z, eqb-true (b .mode) normal (given (busOff b) (eqb (b .mode) normal) (numbers .1 .1 .0) h))
 
-module _ (m : ℕ) (b : Block) where
-  release-follows : (v : ℕ) → Follows m b (released b v) (when (bit v m) acknowledge)
+-- ---- one law for each operation that touches RMP, RML, TRS, TRR or the slot
+
+module _ (u : Bool) (m : ℕ) (b : Block) where
+  release-follows : (v : ℕ) → Follows (Sound u) m b (released b v) (when (bit v m) acknowledge)
   unfolding released after
   release-follows v =
       let t = bit v m in
-      once m b (released b v) t acknowledge (released-rmp b v m ∙ not-where (bit (b .rmp) m) t) (released-rml b v m ∙ not-where (bit (b .rml) m) t) (same t _) (λ e. tt)
+      once m b (released b v) t acknowledge (released-rmp b v m ∙ not-where (bit (b .rmp) m) t) (released-rml b v m ∙ not-where (bit (b .rml) m) t) (same t _) (same t _) (same t _) (λ e. tt) (λ k. k)
 
-  request-follows : (v : ℕ) → Follows m b (requested b v) (when (bit v m && not (bit (b .md) m)) request)
+  request-follows : (v : ℕ) → Follows (Sound u) m b (requested b v) (when (bit v m && not (bit (b .md) m)) request)
   unfolding requested after
   request-follows v =
       let t = bit v m && not (bit (b .md) m) in
-      once m b (requested b v) t request (same t _) (same t _) (requested-trs b v m ∙ or-where (bit (b .trs) m) t) (λ e. tt)
+      once m b (requested b v) t request (same t _) (same t _) (requested-trs b v m ∙ or-where (bit (b .trs) m) t) (same t _) (same t _) (λ e. tt) (λ k. k)
 
-  cancel-follows : (v : ℕ) → Follows m b (cancelled b v) (when (bit v m && not (inSlot b m)) cancel)
+  cancel-follows : (v : ℕ) → Follows (Sound u) m b (cancelled b v) (when (bit v m) cancel)
   unfolding cancelled after
   cancel-follows v =
-      let t = bit v m && not (inSlot b m) in
-      let r = bit (b .trs) m in
+      let t = bit v m in
+      let w = bit (b .trs) m in
+      let c = bit (b .trr) m in
       once m b (cancelled b v) t cancel (same t _) (same t _)
       (cancelled-trs b v m
-      ∙ ap (λ (x : Bool). r && not x) (ending-bit b v m ∙ ap (λ (x : Bool). (bit v m && r) && not x) (slot-bit b m))
-      ∙ ends-where r (bit v m) (inSlot b m))
-      (λ e. tt)
+      ∙ ap (λ (x : Bool). w && not x) (ending-bit b v m ∙ ap (λ (x : Bool). (t && w) && not x) (slot-bit b m))
+      ∙ ends-where w t (inSlot b m))
+      (same t _)
+      (cancelled-trr b v m
+      ∙ ap (λ (x : Bool). c || x) (late-bit b v m ∙ ap (λ (x : Bool). (t && w) && x) (slot-bit b m))
+      ∙ marks-where c t w (inSlot b m))
+      (λ e. tt) (λ k. k)
 
-  store-follows : (n : ℕ) (rtr : Bool) → Follows m b (stored b n rtr) (when (eqb m n) store)
+  store-follows : (n : ℕ) (rtr : Bool) → Follows (Sound u) m b (stored b n rtr) (when (eqb m n) store)
   unfolding stored after
   store-follows n rtr =
       let t = eqb m n in
       once m b (stored b n rtr) t store
       (stored-rmp b n rtr m ∙ or-where (bit (b .rmp) m) t)
       (stored-rml b n rtr m ∙ lost-where (bit (b .rml) m) (bit (b .rmp) m) t)
-      (same t _)
-      (λ e. tt)
+      (same t _) (same t _) (same t _) (λ e. tt) (λ k. k)
 
-  reply-follows : (n : ℕ) → Follows m b (replied b n) (when (eqb m n) request)
+  reply-follows : (n : ℕ) → Follows (Sound u) m b (replied b n) (when (eqb m n) request)
   unfolding after
   reply-follows n =
       let t = eqb m n in
-      once m b (replied b n) t request (same t _) (same t _) (replied-trs b n true m ∙ or-where (bit (b .trs) m) t) (λ e. tt)
+      once m b (replied b n) t request (same t _) (same t _) (replied-trs b n true m ∙ or-where (bit (b .trs) m) t) (same t _) (same t _) (λ e. tt) (λ k. k)
 
-  send-follows : Asks b → Follows m b (sent b) (when (inSlot b m) send)
-  unfolding sent after
-  send-follows g =
-      let t = inSlot b m in
-      let r = bit (b .trs) m in
-      once m b (sent b) t send (same t _) (same t _) (sent-trs b m ∙ ap (λ (x : Bool). r && not x) (slot-bit b m) ∙ not-where r t) (waits b m g)
-
-  fail-follows : (more : ℕ) → Asks b → Follows m b (failed b more) (when (inSlot b m && bit (b .trr) m) abort)
-  unfolding failed after
-  fail-follows more g =
-      let t = inSlot b m && bit (b .trr) m in
-      let r = bit (b .trs) m in
-      once m b (failed b more) t abort (same t _) (same t _)
-      (failed-trs b m more
-      ∙ ap (λ (x : Bool). r && not x) (aborting-bit b m ∙ ap (λ (x : Bool). x && bit (b .trr) m) (slot-bit b m))
-      ∙ not-where r t)
-      (λ e. waits b m g (and-l (inSlot b m) (bit (b .trr) m) e))
-
-  reset-follows : Follows m b freshBlock (reset ∷ [])
+  reset-follows : Follows (Sound u) m b freshBlock (reset ∷ [])
   unfolding freshBlock after when
-  reset-follows = once m b freshBlock true reset (bit-zero m) (bit-zero m) (bit-zero m) (λ e. tt)
+  reset-follows = once m b freshBlock true reset (bit-zero m) (bit-zero m) (bit-zero m) refl (bit-zero m) (λ e. tt) (λ k. (lit< tt, λ z. absurd (false≢true z), λ z. refl))
 
-  settle-follows : Follows m b (settled b) (when (dozes b) sleep)
-  unfolding settled entered after when
-  settle-follows =
-      subst (Follows m b (settled b)) (nested (ready b) (fallsAsleep b))
-      (choice m b (entered b) b (when (fallsAsleep b) sleep) [] (ready b)
-      (λ e. let t = fallsAsleep b in once m b (entered b) t sleep (same t _) (same t _) (entered-trs b m) (λ e. tt))
-      (λ e. none m b b refl))
+  -- the mailbox n that a start chose, or none; the slot was empty
+  start-follows : (n : ℕ) → m < 32 → vacant b ≡ true → (n < 32 → n ≢ 31) → Follows (Sound u) m b (startedWith b n) (when (eqb m n) start)
+  unfolding after
+  start-follows n hm z other = at (ltb n 32) refl
     where
-      nested : (t u : Bool) → cond t (when u sleep) [] ≡ when (t && u) sleep
-      nested true u = refl
-      nested false u = refl
+      at : (t : Bool) → ltb n 32 ≡ t → Follows (Sound u) m b (cond t (started b n) b) (when (eqb m n) start)
+      at true e =
+          let t = eqb m n in
+          let l = ltb-true n 32 e in
+          once m b (started b n) t start (same t _) (same t _) (same t _)
+          (ap (λ (u : Bool). not u && t) (ne-eqb n 31 (other l)) ∙ came t (inSlot b m) (ap (λ (u : Bool). not u && eqb m (b .slot)) z))
+          (same t _) (λ e. tt) (λ k. (l, k .1, k .2))
+      at false e = rw (ne-eqb m n (λ q. omega (arith, ltb-false n 32 e))) (unfold when in none m b b refl (λ k. k))
 
-  -- ---- the tables of writes and of outcomes
+  -- an outcome, with a filled slot
+  module _ (f : filled b ≡ true) where
+    abbrev here : Bool
+    here = eqb m (b .slot)
 
-  write-follows : (t v : ℕ) → Follows m b (written b t v) (direct b (Register t v) m)
-  unfolding written direct noted
-  write-follows t v = table m b (writes b v) (byWrite b v m) rows t
+    at-slot : bit (slotMask b) m ≡ here
+    at-slot = slot-bit b m ∙ ap (λ (t : Bool). t && here) f
+
+    emptied : false ≡ cond here false (inSlot b m)
+    emptied = went here (inSlot b m) (ap (λ (t : Bool). t && here) f)
+
+    send-follows : bit (b .trs) (b .slot) ≡ true → Follows (Sound u) m b (sent b) (when here send)
+    unfolding sent after
+    send-follows g =
+        once m b (sent b) here send (same here _) (same here _)
+        (sent-trs b m ∙ ap (λ (x : Bool). bit (b .trs) m && not x) at-slot ∙ not-where (bit (b .trs) m) here)
+        emptied
+        (sent-trr b m ∙ ap (λ (x : Bool). bit (b .trr) m && not x) at-slot ∙ not-where (bit (b .trr) m) here)
+        (λ e. ap (bit (b .trs)) (eqb-true m (b .slot) e) ∙ g) (λ k. (lit< tt, k .1, k .2))
+
+    fail-follows : (more : ℕ) → bit (b .trs) (b .slot) ≡ true → Follows (Sound u) m b (failed b more) (when here fail)
+    unfolding failed after
+    fail-follows more g =
+        let c = bit (b .trr) m in
+        let marked = aborting-bit b m ∙ ap (λ (x : Bool). x && c) at-slot in
+        once m b (failed b more) here fail (same here _) (same here _)
+        (failed-trs b m more ∙ ap (λ (x : Bool). bit (b .trs) m && not x) marked ∙ fails-where (bit (b .trs) m) here c)
+        emptied
+        (failed-trr b m more ∙ ap (λ (x : Bool). c && not x) marked ∙ unmarks-where c here)
+        (λ e. ap (bit (b .trs)) (eqb-true m (b .slot) e) ∙ g) (λ k. (lit< tt, k .1, k .2))
+
+    outcome-follows : (k : ℕ) → bit (b .trs) (b .slot) ≡ true → Follows (Sound u) m b (concluded b k) (getD (byOutcome here) k [])
+    outcome-follows k g =
+        table m b (sent b ∷ failed b 0 ∷ failed b 8 ∷ []) (byOutcome here) (send-follows g, (fail-follows 0 g, (fail-follows 8 g, tt))) k
+
+  -- the table of writes
+  write-follows : (t v : ℕ) → Follows (Sound u) m b (written b t v) (getD (byWrite (bit v m) (bit (b .md) m)) t [])
+  unfolding written noted
+  write-follows t v = table m b (writes b v) (byWrite (bit v m) (bit (b .md) m)) rows t
     where
-      quiet : (c : Block) → look m c ≡ look m b → Follows m b c []
+      quiet : (c : Block) → look m c ≡ look m b → (Sound u b → Sound u c) → Follows (Sound u) m b c []
       quiet = none m b
 
-      rows : Rows m b (writes b v) (byWrite b v m)
-      rows = (quiet (withMc b v) refl, (quiet (directed b v) refl, (request-follows v, (cancel-follows v, (quiet (withTa b (without (b .ta) v)) refl, (quiet (withAa b (without (b .aa) v)) refl, (release-follows v, (quiet b refl, (quiet (withLam b v) refl, (quiet (withGam b v) refl, (quiet b refl, (quiet (withCdr b v) refl, (quiet (withMbtif b (without (b .mbtif) v)) refl, (quiet (withMbrif b (without (b .mbrif) v)) refl, (quiet (withMbim b v) refl, (quiet (noted b v) refl, (quiet (withGim b v) refl, (quiet (withBcr1 b v) refl, (quiet (withBcr2 b v) refl, (quiet (withTsc b v) refl, tt))))))))))))))))))))
+      rows : Rows (Sound u) m b (writes b v) (byWrite (bit v m) (bit (b .md) m))
+      rows = (quiet (withMc b v) refl (λ k. k), (quiet (directed b v) refl (λ k. k), (request-follows v, (cancel-follows v, (quiet (withTa b (without (b .ta) v)) refl (λ k. k), (quiet (withAa b (without (b .aa) v)) refl (λ k. k), (release-follows v, (quiet b refl (λ k. k), (quiet (withLam b v) refl (λ k. k), (quiet (withGam b v) refl (λ k. k), (quiet b refl (λ k. k), (quiet (withCdr b v) refl (λ k. k), (quiet (withMbtif b (without (b .mbtif) v)) refl (λ k. k), (quiet (withMbrif b (without (b .mbrif) v)) refl (λ k. k), (quiet (withMbim b v) refl (λ k. k), (quiet (noted b v) refl (λ k. k), (quiet (withGim b v) refl (λ k. k), (quiet (withBcr1 b v) refl (λ k. k), (quiet (withBcr2 b v) refl (λ k. k), (quiet (withTsc b v) refl (λ k. k), tt))))))))))))))))))))
 
-  outcome-follows : (k : ℕ) → Asks b → Follows m b (concluded b k) (direct b (Outcome k) m)
-  unfolding direct
-  outcome-follows k g =
-      table m b (sent b ∷ failed b 0 ∷ failed b 8 ∷ []) (byOutcome b m) (send-follows g, (fail-follows 0 g, (fail-follows 8 g, tt))) k
+  -- a mode that is asked for
+  ask-follows : (v : ℕ) → (u ≡ true → asleep b ≡ true) → Follows (Sound u) m b (asked b v) []
+  unfolding asked
+  ask-follows v h = none m b (asked b v) refl (λ k. (k .0, k .1, λ z. at (h z) (eqb v (b .mode)) refl))
+    where
+      at : asleep b ≡ true → (t : Bool) → eqb v (b .mode) ≡ t → eqb (cond t noMode v) 2 ≡ false
+      at z true e = refl
+      at z false e = ne-eqb v 2 (λ q. eqb-false v (b .mode) e (q ∙ sym (eqb-true (b .mode) 2 z)))
 
-  -- ---- the phases of a step
+  -- the end of a step: a waiting mode may be taken
+  settle-follows : Sound u b → Follows Slotted m b (settled b) (when (not u && asleep (settled b)) sleep)
+  unfolding settled entered after when
+  settle-follows k = at (ready b) refl
+    where
+      at : (r : Bool) → ready b ≡ r → Follows Slotted m b (cond r (entered b) b) (when (not u && asleep (cond r (entered b) b)) sleep)
+      at false p = subst (λ (t : Bool). Follows Slotted m b b (when t sleep)) (sym (no-other u (asleep b) (k .1))) (none m b b refl (λ k. k))
+      at true p =
+          let f = fallsAsleep b in
+          let z = and-l (vacant b) (ltb (b .tec) busOffAt) (and-r (not (eqb (b .waiting) noMode)) (vacant b && ltb (b .tec) busOffAt) p) in
+          subst (λ (t : Bool). Follows Slotted m b (entered b) (when t sleep)) (sym (asleep-only u f (k .2)))
+          (once m b (entered b) f sleep (same f _) (same f _) (zeroed m (b .trs) f)
+          (stays-out f (inSlot b m) (ap (λ (t : Bool). not t && eqb m (b .slot)) z))
+          (zeroed m (b .trr) f) (λ e. tt) (λ x. x))
 
-  deliver-follows : (rtr : Bool) (d : Delivery) → Follows m b (delivered b rtr d) (byFrame d m)
-  unfolding delivered byFrame
-  deliver-follows rtr (Into n c) = store-follows n rtr
-  deliver-follows rtr (Reply n c) = reply-follows n
-  deliver-follows rtr (Nowhere c) = none m b b refl
+-- ---- the phases of a step
 
-start-follows : (m : ℕ) (b : Block) (n : ℕ) → Follows m b (startedWith b n) []
-start-follows m b n = at (ltb n noMailbox)
-  where
-    at : (t : Bool) → Follows m b (cond t (started b n) b) []
-    at true = none m b (started b n) refl
-    at false = none m b b refl
+-- a refusal number that is 0
+clear : (t : Bool) (k : ℕ) → 0 < k → cond t k 0 ≡ 0 → t ≡ false
+clear true k h e = absurd (omega arith)
+clear false k h e = refl
 
-own-follows : (m : ℕ) (s : List ℕ) (e : Event) → Asks (blockOf s) → Follows m (blockOf s) (own s e) (direct (blockOf s) e m)
-unfolding own direct listened worsened recessive ticked asked
-own-follows m s (Refused r) g = none m (blockOf s) (blockOf s) refl
-own-follows m s (Register t v) g = write-follows m (blockOf s) t v
-own-follows m s (Mailbox n k v) g = none m (blockOf s) (blockOf s) refl
-own-follows m s (Heard f) g = none m (blockOf s) (listened (blockOf s)) refl
-own-follows m s Start g = start-follows m (blockOf s) (next s)
-own-follows m s (Outcome k) g = outcome-follows m (blockOf s) k g
-own-follows m s (ReceiveError v) g = none m (blockOf s) (worsened (blockOf s) v) refl
-own-follows m s Recessive g = none m (blockOf s) (recessive (blockOf s)) refl
-own-follows m s Tick g = none m (blockOf s) (ticked (blockOf s)) refl
-own-follows m s (Mode v) g = none m (blockOf s) (asked (blockOf s) v) refl
-own-follows m s (Options v) g = none m (blockOf s) (optioned (blockOf s) v) refl
-own-follows m s Reset g = reset-follows m (blockOf s)
+-- what wakes is no longer asleep
+still-asleep : (t : Bool) (x : ℕ) → eqb (cond t normal x) 2 ≡ true → eqb x 2 ≡ true
+still-asleep true x h = absurd (false≢true h)
+still-asleep false x h = h
 
--- the end of a step: GIF rises, which no book sees, and a waiting mode may be taken
-end-follows : (m : ℕ) (a b : Block) → Follows m b (settled (risen a b)) (when (dozes b) sleep)
-unfolding risen
-end-follows m a b = both m b (risen a b) _ [] _ (none m b (risen a b) refl) (settle-follows m (risen a b))
+kind : (t : Bool) (x y : Happening) → (t ≡ true → x ≡ y) → when t x ≡ when t y
+unfolding when
+kind true x y h = ap (λ (z : Happening). z ∷ []) (h refl)
+kind false x y h = refl
 
-accepted-follows : (m : ℕ) (s : List ℕ) (e : Event) → Asks (blockOf s) → Follows m (blockOf s) (blockAfter s e) (happens s e m)
-unfolding blockAfter happens
-accepted-follows m s e g =
-    both m (blockOf s) (acted s e) _ _ _
-    (both m (blockOf s) (own s e) _ _ _ (own-follows m s e g) (deliver-follows m (own s e) (remote e) (goes s e)))
-    (end-follows m (blockOf s) (acted s e))
+module _ (m : ℕ) (hm : m < 32) (s : List ℕ) where
+  abbrev b : Block
+  b = blockOf s
+
+  abbrev u : Bool
+  u = asleep b
+
+  listen-follows : Follows (Sound u) m b (listened b) []
+  unfolding listened
+  listen-follows = none m b (listened b) refl (λ k. (k .0, λ z. k .1 (still-asleep (wakened b) (b .mode) z), k .2))
+
+  -- a frame is stored at a mailbox that receives, and asks another one to reply
+  frame-follows : (f : Frame) (d : Delivery) → delivery s f ≡ d
+      → Follows (Sound u) m b (delivered (listened b) (f .rtr) d) (when (eqb m (namedBy d)) (cond (bit (b .md) m) store request))
+  unfolding delivered
+  frame-follows f (Into n c) e =
+      subst (Follows (Sound u) m b (stored (listened b) n (f .rtr)))
+      (kind (eqb m n) store _ (λ q. rw (ap (bit (b .md)) (eqb-true m n q) ∙ into s f n c e .receiver)))
+      (both m b (listened b) _ [] _ listen-follows (store-follows u m (listened b) n (f .rtr)))
+  frame-follows f (Reply n c) e =
+      subst (Follows (Sound u) m b (replied (listened b) n))
+      (kind (eqb m n) request _ (λ q. rw (ap (bit (b .md)) (eqb-true m n q) ∙ reply s f n c e .transmitter)))
+      (both m b (listened b) _ [] _ listen-follows (reply-follows u m (listened b) n))
+  frame-follows f (Nowhere c) e = rw (ne-eqb m noMailbox (λ q. omega arith)) (unfold when in listen-follows)
+
+  -- a start chooses a mailbox with a request, so never 31
+  chosen-sends : goodBlock b ≡ true → next s < 32 → next s ≢ 31
+  chosen-sends g l q = at (onBus b) refl
+    where
+      at : (t : Bool) → onBus b ≡ t → ⊥
+      at true h =
+          let asked = and-l _ _ (and-l _ _ (and-l _ _ (sym (eligible-bit b (next s)) ∙ next-is s h .named l))) in
+          false≢true (sym (bit-high (next s) 31 (b .trs) (low b g) (omega arith)) ∙ asked)
+      at false h = omega (arith, next-off s h)
+
+  acted-follows : (v : Event) → goodBlock b ≡ true → remaining s v ≡ 0
+      → Follows (Sound u) m b (acted s v) (direct (eqb m (accepted s v .mailbox)) (bit (b .md) m) v m)
+  unfolding own goes delivered direct accepted named remaining worsened recessive ticked
+  acted-follows (Refused r) g z = none m b b refl (λ k. k)
+  acted-follows (Register t v) g z = write-follows u m b t v
+  acted-follows (Mailbox n k v) g z = none m b b refl (λ k. k)
+  acted-follows (Heard f) g z = frame-follows f (delivery s f) refl
+  acted-follows Start g z = start-follows u m b (next s) hm (not-false _ (clear (filled b) 5 (lit< tt) z)) (chosen-sends g)
+  acted-follows (Outcome k) g z =
+      let f = ap not (clear (vacant b) 7 (lit< tt) z) in
+      outcome-follows u m b f k (asks b g f .1 .1 .0)
+  acted-follows (ReceiveError v) g z = none m b (worsened b v) refl (λ k. k)
+  acted-follows Recessive g z = none m b (recessive b) refl (λ k. k)
+  acted-follows Tick g z = none m b (ticked b) refl (λ k. k)
+  acted-follows (Mode v) g z = ask-follows u m b v (λ z. z)
+  acted-follows (Options v) g z = none m b (optioned b v) refl (λ k. k)
+  acted-follows Reset g z = reset-follows u m b
+
+  -- at the end GIF rises, which no book sees, and a waiting mode may be taken
+  end-follows : (a c : Block) → Sound u c → Follows Slotted m c (settled (risen a c)) (when (not u && asleep (settled (risen a c))) sleep)
+  unfolding risen
+  end-follows a c k = both m c (risen a c) _ [] _ (none m c (risen a c) refl (λ k. k)) (settle-follows u m (risen a c) k)
+
+  accepted-follows : (v : Event) → goodBlock b ≡ true → remaining s v ≡ 0 → Follows Slotted m b (blockAfter s v) (happens s v m)
+  unfolding blockAfter happens
+  accepted-follows v g z =
+      let p = acted-follows v g z in
+      let k = p .keeps (sound b g) in
+      both m b (acted s v) _ _ _ (then m b (acted s v) _ _ p refl (λ l. k .0)) (end-follows b (acted s v) k)
+
+  -- and is read back from the image
+  left-follows : (v : Event) → length s ≡ imageBytes → goodBlock b ≡ true → remaining s v ≡ 0
+      → Follows Any m b (blockOf (accepted s v .image)) (happens s v m)
+  unfolding accepted
+  left-follows v h g z =
+      let p = accepted-follows v g z in
+      then m b (blockAfter s v) _ _ p (look-back m (mailboxesAfter s v) (blockAfter s v) hm (length-after s v ∙ h) (p .keeps (sound b g .0))) (λ k. k)
 
 -- ---- the step, of any bytes
 
--- only a good image is not refused
-good-image : (s e : List ℕ) → eqb (refusal s e) 0 ≡ true → goodImage s ≡ true
-good-image s e z = at (goodImage s) refl
-  where
-    at : (t : Bool) → goodImage s ≡ t → goodImage s ≡ true
-    at true p = p
-    at false p = absurd (false≢true (sym (ap (λ (n : ℕ). eqb n 0) (refusal-bad s e p)) ∙ z))
+-- what a step that is not refused knows: the image is good, and nothing stands against the event
+module _ (s e : List ℕ) (z : eqb (refusal s e) 0 ≡ true) where
+  good-image : goodImage s ≡ true
+  good-image = at (goodImage s) refl
+    where
+      at : (t : Bool) → goodImage s ≡ t → goodImage s ≡ true
+      at true p = p
+      at false p = absurd (false≢true (sym (ap (λ (n : ℕ). eqb n 0) (refusal-bad s e p)) ∙ z))
 
-pub step-follows : (s e : List ℕ) (m : ℕ) → m < 32 → Follows m (blockOf s) (blockOf (step s e .image)) (happenings s e m)
+  good-block : goodBlock (blockOf s) ≡ true
+  unfolding goodImage
+  good-block = all (contents s) (and-r (eqb (length s) imageBytes) (every (contents s)) good-image) .1 .1 .0
+
+  left-over : remaining s (event e) ≡ 0
+  left-over =
+      let a = asleep (blockOf s) in
+      let l : remaining s (decoded a e) ≡ 0 = sym (refusal-good s e good-image) ∙ eqb-true _ _ z in
+      ap (remaining s) (sym (real s a e l)) ∙ l
+
+pub step-follows : (s e : List ℕ) (m : ℕ) → m < 32 → Follows Any m (blockOf s) (blockOf (step s e .image)) (happenings s e m)
 unfolding step happenings
 step-follows s e m hm = at (eqb (refusal s e) 0) refl
   where
     at : (t : Bool) → eqb (refusal s e) 0 ≡ t
-        → Follows m (blockOf s) (blockOf (cond t (accepted s (event e)) (refused s (refusal s e)) .image)) (cond t (happens s (event e) m) [])
-    at true z =
-        let g = good-image s e z in
-        let v = event e in
-        unfold accepted in
-        then m (blockOf s) (blockAfter s v) _ _ (accepted-follows m s v (slot-asks s g))
-        (look-back m (mailboxesAfter s v) (blockAfter s v) hm (length-after s v ∙ good-length s g))
-    at false z = none m (blockOf s) (blockOf s) refl
+        → Follows Any m (blockOf s) (blockOf (cond t (accepted s (event e)) (refused s (refusal s e)) .image)) (cond t (happens s (event e) m) [])
+    at true z = left-follows m hm s (event e) (good-length s (good-image s e z)) (good-block s e z) (left-over s e z)
+    at false z = none m (blockOf s) (blockOf s) refl (λ k. k)

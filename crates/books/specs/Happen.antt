@@ -1,4 +1,4 @@
--- What happens at mailbox m in a step, from the image before and the event; runs of steps, their books, and what is claimed of them.
+-- What happens at mailbox m in a step, from the event and its answer; runs of steps, their books, and what is claimed of them.
 use Prim.Native.Nat.{ℕ, _<_}
 use mathlib.Core.Path.{_≡_}
 use mathlib.Core.Bool.{Bool, cond, not, _&&_}
@@ -8,18 +8,15 @@ use lib.ListN.{getD}
 use Rattle.bits.specs.Bit.{bit}
 use Rattle.registers.specs.declared.Block.{Block}
 use Rattle.registers.specs.Block.{blockOf}
-use Rattle.registers.specs.Status.{filled}
-use Rattle.registers.specs.Modes.{ready, fallsAsleep}
+use Rattle.registers.specs.Status.{filled, asleep}
 use Rattle.mailboxes.specs.Mailbox.{mailboxes}
 use Rattle.events.specs.declared.Event.{Event}
 use Rattle.events.specs.declared.Event.the-variants.{Refused, Register, Mailbox, Heard, Start, Outcome, ReceiveError, Recessive, Tick, Mode, Options, Reset}
 use Rattle.events.specs.Decode.{event}
-use Rattle.filter.specs.declared.Delivery.{Delivery}
-use Rattle.filter.specs.declared.Delivery.the-variants.{Into, Reply, Nowhere}
 use Rattle.refusals.specs.Refusal.{refusal}
 use Rattle.fresh.specs.Fresh.{freshImage}
-use Rattle.model.specs.Step.{goes, acted, step}
-use Rattle.books.specs.Ledger.{Happening, store, acknowledge, request, cancel, send, abort, sleep, reset, Now, now, afters, Book, books, empty, Balanced}
+use Rattle.model.specs.Step.{blockAfter, accepted, step}
+use Rattle.books.specs.Ledger.{Happening, store, acknowledge, request, cancel, start, send, fail, sleep, reset, Now, now, afters, Book, books, empty, Balanced}
 
 -- ---- one step
 
@@ -27,60 +24,40 @@ use Rattle.books.specs.Ledger.{Happening, store, acknowledge, request, c
 unfoldable pub when : Bool → Happening → List Happening
 when t h = cond t (h ∷ []) []
 
--- Is mailbox m in the slot?
-abbrev pub inSlot : Block → ℕ → Bool
-inSlot b m = filled b && eqb m (b .slot)
+-- Writing: what a write does at a mailbox, register by register, by two tests: has the value its bit, and does it receive? TRS (2) asks
+-- at transmit mailboxes, TRR (3) cancels, RMP (6) acknowledges; no other register has a part in the books.
+abbrev pub byWrite : Bool → Bool → List (List Happening)
+byWrite set receives =
+    [] ∷ [] ∷ when (set && not receives) request ∷ when set cancel ∷ [] ∷ [] ∷ when set acknowledge ∷ []
 
--- Writing: what a write of v does at mailbox m, register by register. TRS (2) asks at transmit mailboxes, TRR (3) cancels but in
--- the slot, RMP (6) acknowledges; no other register has a part in the books.
-abbrev pub byWrite : Block → ℕ → ℕ → List (List Happening)
-byWrite b v m =
-    []
-    ∷ []
-    ∷ when (bit v m && not (bit (b .md) m)) request
-    ∷ when (bit v m && not (inSlot b m)) cancel
-    ∷ []
-    ∷ []
-    ∷ when (bit v m) acknowledge
-    ∷ []
+-- Sending: what the outcomes sent, arbitration lost and error do at the mailbox that the answer names.
+abbrev pub byOutcome : Bool → List (List Happening)
+byOutcome named = when named send ∷ when named fail ∷ when named fail ∷ []
 
--- Sending: what the outcomes sent, arbitration lost and error do at mailbox m. One that was not sent ends only where its cancel bit
--- is up.
-abbrev pub byOutcome : Block → ℕ → List (List Happening)
-byOutcome b m =
-    when (inSlot b m) send
-    ∷ when (inSlot b m && bit (b .trr) m) abort
-    ∷ when (inSlot b m && bit (b .trr) m) abort
-    ∷ []
+-- The events: what each operation does at mailbox m, by two tests: does the answer name it, and does it receive? A frame is stored where
+-- it does, and asks for a reply elsewhere.
+unfoldable pub direct : Bool → Bool → Event → ℕ → List Happening
+direct named receives (Refused r) m = []
+direct named receives (Register t v) m = getD (byWrite (bit v m) receives) t []
+direct named receives (Mailbox n k v) m = []
+direct named receives (Heard f) m = when named (cond receives store request)
+direct named receives Start m = when named start
+direct named receives (Outcome k) m = getD (byOutcome named) k []
+direct named receives (ReceiveError v) m = []
+direct named receives Recessive m = []
+direct named receives Tick m = []
+direct named receives (Mode v) m = []
+direct named receives (Options v) m = []
+direct named receives Reset m = reset ∷ []
 
--- The events: what each operation itself does at mailbox m.
-unfoldable pub direct : Block → Event → ℕ → List Happening
-direct b (Refused r) m = []
-direct b (Register t v) m = getD (byWrite b v m) t []
-direct b (Mailbox n k v) m = []
-direct b (Heard f) m = []
-direct b Start m = []
-direct b (Outcome k) m = getD (byOutcome b m) k []
-direct b (ReceiveError v) m = []
-direct b Recessive m = []
-direct b Tick m = []
-direct b (Mode v) m = []
-direct b (Options v) m = []
-direct b Reset m = reset ∷ []
+-- Sending, errors, modes: did the unit fall asleep between two blocks?
+abbrev pub dozes : Block → Block → Bool
+dozes before after = not (asleep before) && asleep after
 
--- Receiving: what a frame does at mailbox m, by where it goes.
-unfoldable pub byFrame : Delivery → ℕ → List Happening
-byFrame (Into n c) m = when (eqb m n) store
-byFrame (Reply n c) m = when (eqb m n) request
-byFrame (Nowhere c) m = []
-
--- Sending, errors, modes: at the end of a step the unit falls asleep, if that mode is asked for and may be taken.
-abbrev pub dozes : Block → Bool
-dozes b = ready b && fallsAsleep b
-
--- An accepted step, in this order: the operation, the frame that it brings, a sleep at the end.
+-- An accepted step: the operation, then a sleep, which comes at its end. Besides event and answer only MD's bit and the mode are read.
 unfoldable pub happens : List ℕ → Event → ℕ → List Happening
-happens s e m = direct (blockOf s) e m ++ byFrame (goes s e) m ++ when (dozes (acted s e)) sleep
+happens s e m =
+    direct (eqb m (accepted s e .mailbox)) (bit (blockOf s .md) m) e m ++ when (dozes (blockOf s) (blockAfter s e)) sleep
 
 -- The books of one mailbox: what happens at m when the bytes e come to the image s; a refused step books nothing.
 unfoldable pub happenings : List ℕ → List ℕ → ℕ → List Happening
@@ -118,9 +95,13 @@ pub record Kept (m : ℕ) (s : List ℕ) (k : Book) : Type 0 where
 unfoldable pub Demand3 : Type 0
 Demand3 = (events : List (List ℕ)) (m : ℕ) → m < mailboxes → Kept m (left events) (booked m events)
 
--- What the flag words of an image say of mailbox m.
+-- Is mailbox m in the slot?
+abbrev pub inSlot : Block → ℕ → Bool
+inSlot b m = filled b && eqb m (b .slot)
+
+-- What the flag words and the slot of an image say of mailbox m.
 abbrev pub flags : ℕ → List ℕ → Now
-flags m s = now (bit (blockOf s .rmp) m) (bit (blockOf s .rml) m) (bit (blockOf s .trs) m)
+flags m s = let b = blockOf s in now (bit (b .rmp) m) (bit (b .rml) m) (bit (b .trs) m) (inSlot b m) (bit (b .trr) m)
 
 -- The same step by step, of any image and any event: the flags after it are those before it, changed by what happens, in order.
 unfoldable pub EachStep : Type 0

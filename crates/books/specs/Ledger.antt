@@ -1,40 +1,44 @@
 -- The books of one mailbox, kept from what happens there and from nothing else: no flag word is read here.
 use Prim.Native.Nat.{ℕ, _+_}
 use mathlib.Core.Path.{_≡_}
-use mathlib.Core.Bool.{Bool, true, false, cond, not, _||_}
+use mathlib.Core.Bool.{Bool, true, false, cond, not, _&&_, _||_}
 use mathlib.Core.List.{List, [], _∷_}
 
 -- The books of one mailbox: what can happen at a mailbox.
 pub data Happening : Type 0 where
   -- a frame is stored here; RMP is written with this mailbox's bit
   store acknowledge : Happening
-  -- a TRS write or a remote frame asks this mailbox to send; TRR is written with its bit while it is not in the slot
+  -- a TRS write or a remote frame asks this mailbox to send; TRR is written with its bit
   request cancel : Happening
-  -- what was in the slot is sent; it is not, and its cancel bit was up
-  send abort : Happening
+  -- it goes into the slot; from there it is sent; or it is not
+  start send fail : Happening
   -- the unit falls asleep; it is reset
   sleep reset : Happening
 
 -- The books of one mailbox: how it stands. Is a frame held: was one stored since the latest release or reset? Was a held frame
--- overwritten since then? Does a request wait: was one raised that has not ended?
+-- overwritten since then? Does a request wait: was one raised that has not ended? Is it in the slot? Was it cancelled there?
 pub record Now : Type 0 where
   pub held : Bool
   pub lost : Bool
   pub waiting : Bool
+  pub sending : Bool
+  pub cancelled : Bool
 
-abbrev pub now : Bool → Bool → Bool → Now
-now h l w = record { held = h; lost = l; waiting = w }
+abbrev pub now : Bool → Bool → Bool → Bool → Bool → Now
+now h l w s c = record { held = h; lost = l; waiting = w; sending = s; cancelled = c }
 
--- What each happening makes of it: held, lost, waiting. A reset drops the frame and the request, falling asleep the request alone.
+-- What each happening makes of it: held, lost, waiting, sending, cancelled. A cancel ends a request at once, but one in the slot is
+-- marked and ends when it is not sent. A reset drops the frame and the request, falling asleep the request alone.
 unfoldable pub after : Now → Happening → Now
-after n store = now true (n .lost || n .held) (n .waiting)
-after n acknowledge = now false false (n .waiting)
-after n request = now (n .held) (n .lost) true
-after n cancel = now (n .held) (n .lost) false
-after n send = now (n .held) (n .lost) false
-after n abort = now (n .held) (n .lost) false
-after n sleep = now (n .held) (n .lost) false
-after n reset = now false false false
+after n store = now true (n .lost || n .held) (n .waiting) (n .sending) (n .cancelled)
+after n acknowledge = now false false (n .waiting) (n .sending) (n .cancelled)
+after n request = now (n .held) (n .lost) true (n .sending) (n .cancelled)
+after n cancel = now (n .held) (n .lost) (n .waiting && n .sending) (n .sending) (n .cancelled || n .waiting && n .sending)
+after n start = now (n .held) (n .lost) (n .waiting) true (n .cancelled)
+after n send = now (n .held) (n .lost) false false false
+after n fail = now (n .held) (n .lost) (n .waiting && not n.cancelled) false false
+after n sleep = now (n .held) (n .lost) false false false
+after n reset = now false false false false false
 
 -- The same of several, in their order.
 unfoldable pub afters : Now → List Happening → Now
@@ -70,9 +74,10 @@ unfoldable pub entry : Now → Happening → Counts
 entry n store = row 1 0 (one n.held) 0 0 0 0 0 0
 entry n acknowledge = row 0 (one n.held) 0 0 0 0 0 0 0
 entry n request = row 0 0 0 0 (one (not n.waiting)) 0 0 0 0
-entry n cancel = row 0 0 0 0 0 0 (one n.waiting) 0 0
+entry n cancel = row 0 0 0 0 0 0 (one (n .waiting && not n.sending)) 0 0
+entry n start = row 0 0 0 0 0 0 0 0 0
 entry n send = row 0 0 0 0 0 1 0 0 0
-entry n abort = row 0 0 0 0 0 0 1 0 0
+entry n fail = row 0 0 0 0 0 0 (one n.cancelled) 0 0
 entry n sleep = row 0 0 0 0 0 0 0 (one n.waiting) 0
 entry n reset = row 0 0 0 (one n.held) 0 0 0 0 (one n.waiting)
 
@@ -87,7 +92,7 @@ pub record Book : Type 0 where
   pub counts : Counts
 
 abbrev pub empty : Book
-empty = record { now = now false false false; counts = row 0 0 0 0 0 0 0 0 0 }
+empty = record { now = now false false false false false; counts = row 0 0 0 0 0 0 0 0 0 }
 
 -- One happening is booked, or several in their order.
 unfoldable pub book : Book → Happening → Book
