@@ -14,7 +14,6 @@
 
 static void complain_with(const char *format, va_list words)
 {
-    fflush(stdout);
     fputs("frostsorrel: ", stderr);
     vfprintf(stderr, format, words);
 }
@@ -37,6 +36,13 @@ int misused(const char *subcommand, const char *format, ...)
     complain_with(format, words);
     va_end(words);
     fprintf(stderr, "; see frostsorrel %s%s--help\n", subcommand, *subcommand ? " " : "");
+    return COMMAND_FAILED;
+}
+
+/* What errno says of this file. */
+static int failed_at(const char *name)
+{
+    complain("%s: %s", name, strerror(errno));
     return COMMAND_FAILED;
 }
 
@@ -99,20 +105,20 @@ const char *name_of_input(const char *path)
 
 static int read_open(FILE *file, const char *path, size_t limit, struct bytes *into)
 {
-    size_t room = 0, got;
+    size_t room = 0, most, got;
 
     into->at = 0;
     into->length = 0;
     do {
         if (into->length == room)
             into->at = grown(into->at, room = room ? 2 * room : 65536);
-        got = room - into->length < limit + 1 - into->length ? room - into->length : limit + 1 - into->length;
-        got = fread(into->at + into->length, 1, got, file);
+        most = room < limit + 1 ? room : limit + 1;
+        got = fread(into->at + into->length, 1, most - into->length, file);
         into->length += got;
     } while (got > 0 && into->length <= limit);
     if (!ferror(file))
         return COMMAND_DONE;
-    complain("%s: %s", name_of_input(path), strerror(errno));
+    failed_at(name_of_input(path));
     free(into->at);
     return COMMAND_FAILED;
 }
@@ -122,10 +128,8 @@ int read_whole(const char *path, size_t limit, struct bytes *into)
     FILE *file = is_standard(path) ? stdin : fopen(path, "rb");
     int status;
 
-    if (!file) {
-        complain("%s: %s", path, strerror(errno));
-        return COMMAND_FAILED;
-    }
+    if (!file)
+        return failed_at(path);
     status = read_open(file, path, limit, into);
     if (file != stdin)
         fclose(file);
@@ -168,31 +172,23 @@ void text_free(struct text *t)
     memset(t, 0, sizeof *t);
 }
 
-/* Writes and flushes; a full disk may show in any of the two. */
-static int put_all(const struct text *t, FILE *file)
+/* Answers whether all went well. A full disk may show in any of the three calls; errno is that of the first. */
+static int put_and_close(const struct text *t, FILE *file)
 {
     size_t put = t->length ? fwrite(t->at, 1, t->length, file) : 0;
+    int written = put == t->length && fflush(file) == 0, error = errno, closed = fclose(file) == 0;
 
-    return put == t->length && fflush(file) == 0;
-}
-
-static int failed_at(const char *path)
-{
-    complain("%s: %s", path, strerror(errno));
-    return COMMAND_FAILED;
+    if (!written)
+        errno = error;
+    return written && closed;
 }
 
 /* A device or a pipe is written as it is: there is no place beside it, and nothing to put in its place. */
 static int write_device(const struct text *t, const char *path)
 {
     FILE *file = fopen(path, "wb");
-    int written, closed;
 
-    if (!file)
-        return failed_at(path);
-    written = put_all(t, file);
-    closed = fclose(file) == 0;
-    return written && closed ? COMMAND_DONE : failed_at(path);
+    return file && put_and_close(t, file) ? COMMAND_DONE : failed_at(path);
 }
 
 /* The permissions that a new file would have got. */
@@ -208,26 +204,19 @@ static mode_t usual_mode(void)
 static int write_beside(const struct text *t, const char *path, mode_t mode)
 {
     struct text beside = {0};
-    int number, written = 0, closed = 0, error;
-    FILE *file;
+    FILE *file = 0;
+    int number, status = COMMAND_DONE;
 
     text_add(&beside, "%s.XXXXXX", path);
     number = mkstemp(beside.at);
-    file = number < 0 ? 0 : fdopen(number, "wb");
-    if (file) {
-        written = put_all(t, file) && fchmod(number, mode) == 0;
-        error = errno;
-        closed = fclose(file) == 0;
-        if (!written)
-            errno = error;
-        written = written && closed && rename(beside.at, path) == 0;
-    }
-    error = errno;
-    if (number >= 0 && !written)
+    if (number >= 0 && fchmod(number, mode) == 0)
+        file = fdopen(number, "wb");
+    if (!file || !put_and_close(t, file) || rename(beside.at, path) != 0)
+        status = failed_at(path);
+    if (number >= 0 && status != COMMAND_DONE)
         remove(beside.at);
-    errno = error;
     text_free(&beside);
-    return written ? COMMAND_DONE : failed_at(path);
+    return status;
 }
 
 static int write_file(const struct text *t, const char *path)
@@ -252,7 +241,7 @@ int text_show(const struct text *t, const char *path)
 {
     if (!is_standard(path))
         return write_file(t, path);
-    return put_all(t, stdout) ? COMMAND_DONE : failed_at("standard output");
+    return put_and_close(t, stdout) ? COMMAND_DONE : failed_at("standard output");
 }
 
 int wants_colour(void)
