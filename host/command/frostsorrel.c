@@ -32,6 +32,12 @@ static const char help[] =
     "A file named - is standard input. The exit status is 0 when all is done, 1 when the trace was refused or\n"
     "a check found a difference, and 2 when something could not be read, written or understood.\n";
 
+/* Shows what one word asks for; a word behind it is an error. */
+static int alone(int argc, char **argv, const char *words)
+{
+    return argc > 2 ? misused("", "%s takes no words, and %s is one", argv[1], argv[2]) : show_help(words);
+}
+
 int main(int argc, char **argv)
 {
     signal(SIGPIPE, SIG_IGN); /* a reader that has gone, and a file that may not grow, are errors like a full disk */
@@ -39,9 +45,9 @@ int main(int argc, char **argv)
     if (argc < 2)
         return misused("", "which subcommand?");
     if (strcmp(argv[1], "--help") == 0)
-        return show_help(help);
+        return alone(argc, argv, help);
     if (strcmp(argv[1], "--version") == 0)
-        return show_help("frostsorrel " FROSTSORREL_VERSION "\n");
+        return alone(argc, argv, "frostsorrel " FROSTSORREL_VERSION "\n");
     for (size_t i = 0; i < sizeof subcommands / sizeof subcommands[0]; i++)
         if (strcmp(argv[1], subcommands[i].name) == 0)
             return subcommands[i].run(argc - 1, argv + 1);
