@@ -68,6 +68,13 @@ struct text {
 };
 
 PRINTF_LIKE(2, 3) void text_add(struct text *t, const char *format, ...);
+
+/* A number of 32 bits for %lu and %lX: C99 leaves open which format is its own. */
+static inline unsigned long wide(uint32_t value)
+{
+    return value;
+}
+
 void text_bytes(struct text *t, const void *bytes, size_t count);
 void text_free(struct text *t);
 

@@ -3,6 +3,8 @@
  * that paper can break between them. In a band stand the steps, the mode, the refused events, a lane for each mailbox
  * with anything to show there, and the two error counters. Every mark has a shape of its own beside its colour.
  */
+#include <string.h>
+
 #include "report.h"
 #include "words.h"
 
@@ -140,22 +142,14 @@ static void draw_steps(struct band *b, double height)
     b->bottom = STEPS_HEIGHT;
 }
 
-/* The mode after a step; bus off stands beside the modes here. */
-static const char *mode_after(const struct run *r, int step)
-{
-    if (frostsorrel_register_word(r->image[step], FROSTSORREL_TEC) == FROSTSORREL_BUS_OFF_TEC)
-        return "bus off";
-    return frostsorrel_mode_name(frostsorrel_register_word(r->image[step], FROSTSORREL_WORD_MODE));
-}
-
 static void draw_modes(struct band *b)
 {
     draw_words(b->out, "name", NAMES, b->bottom + 16, "mode");
     for (int k = b->first, last; k <= b->last; k = last + 1) {
-        const char *mode = mode_after(b->run, k), initial[] = {mode[0], 0};
+        const char *mode = state_of(b->run->image[k]), initial[] = {mode[0], 0};
         double x = LEFT + (k - b->first) * b->step, width;
 
-        for (last = k; last < b->last && mode_after(b->run, last + 1) == mode;)
+        for (last = k; last < b->last && strcmp(state_of(b->run->image[last + 1]), mode) == 0;)
             last++;
         width = (last - k + 1) * b->step;
         draw_box(b->out, mode[0] == 'n' ? "mode normal" : mode[0] == 'b' ? "mode off" : "mode other", x, b->bottom + 3,

@@ -19,7 +19,7 @@ static void say_unknown(struct text *t, const uint8_t *event)
         text_add(t, "there is no operation %d", event[0]);
     else if (event[0] == FROSTSORREL_OUTCOME)
         text_add(t, "there is no outcome %d", event[1]);
-    else if (event[0] == FROSTSORREL_WRITE_REGISTER && (event[1] <= FROSTSORREL_REC || event[1] == FROSTSORREL_GSR))
+    else if (event[0] == FROSTSORREL_WRITE_REGISTER && is_register(event[1]))
         text_add(t, "%s can only be read", frostsorrel_register_name(event[1]));
     else if (event[0] == FROSTSORREL_WRITE_REGISTER)
         text_add(t, "there is no register %d", event[1]);
@@ -147,7 +147,7 @@ static void say_busy(struct text *t, const uint8_t *before, const uint8_t *event
     else if (event[0] == FROSTSORREL_WRITE_MAILBOX && event[1] != slot)
         text_add(t, "a request waits at mailbox %d (TRS), and CDR does not hold it back", event[1]);
     else
-        text_add(t, "mailbox %lu is being sent", (unsigned long)slot);
+        text_add(t, "mailbox %lu is being sent", wide(slot));
 }
 
 /* ---- 6: locked */
@@ -180,7 +180,7 @@ static void say_locked_mode(struct text *t, const uint8_t *before, const uint8_t
 
     if (frostsorrel_event_value(event) == FROSTSORREL_NORMAL)
         text_add(t, "BCR2 is 0x%lX: TSEG1 and TSEG2 must not be 0, and SJW must not be above TSEG2",
-                 (unsigned long)word_of(before, FROSTSORREL_BCR2));
+                 wide(word_of(before, FROSTSORREL_BCR2)));
     else
         text_add(t, "%s can be left for normal only", frostsorrel_mode_name(mode));
 }

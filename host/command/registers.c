@@ -12,8 +12,8 @@ static int add_register(struct text *t, const uint8_t *image, uint32_t number)
 {
     uint64_t answer = frostsorrel_read(image, FROSTSORREL_IMAGE_BYTES, number);
 
-    text_add(t, "%6lu  %-5s  0x%08lX\n", (unsigned long)number, frostsorrel_register_name(number),
-             (unsigned long)frostsorrel_read_value(answer));
+    text_add(t, "%6lu  %-5s  0x%08lX\n", wide(number), frostsorrel_register_name(number),
+             wide(frostsorrel_read_value(answer)));
     return frostsorrel_read_refusal(answer) == FROSTSORREL_ACCEPTED;
 }
 

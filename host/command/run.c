@@ -11,7 +11,7 @@ static void check_flags(struct run *r, int step, uint32_t number, uint32_t booke
 
     if (found != booked)
         text_add(&r->fault, "step %d: %s is 0x%08lX, and the books say 0x%08lX\n", step,
-                 frostsorrel_register_name(number), (unsigned long)found, (unsigned long)booked);
+                 frostsorrel_register_name(number), wide(found), wide(booked));
 }
 
 static void check_step(struct run *r, int step)
@@ -33,8 +33,8 @@ static void write_listing(struct text *t, const struct run *r)
     }
     text_add(t, "step code mailbox count\n");
     for (int k = 1; k <= r->steps; k++)
-        text_add(t, "%d %lu %lu %lu\n", k, (unsigned long)frostsorrel_answer_refusal(r->step[k].answer),
-                 (unsigned long)frostsorrel_answer_mailbox(r->step[k].answer),
+        text_add(t, "%d %lu %lu %lu\n", k, wide(frostsorrel_answer_refusal(r->step[k].answer)),
+                 wide(frostsorrel_answer_mailbox(r->step[k].answer)),
                  (unsigned long)frostsorrel_answer_count(r->step[k].answer));
     text_add(t, "end %d\n", r->steps);
 }

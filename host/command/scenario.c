@@ -3,6 +3,8 @@
 
 #include <string.h>
 
+#include "words.h"
+
 enum { MOST_OF_A_LINE = 4, MOST_EXPECTED = 24 };
 
 struct reader {
@@ -367,11 +369,6 @@ static void read_mailbox(struct reader *r)
         take_mailbox_word(r, mailbox);
     else
         unexpected(r);
-}
-
-int is_register(uint32_t number)
-{
-    return number <= FROSTSORREL_REC || number == FROSTSORREL_GSR;
 }
 
 /* By name or number. One that can only be read is taken too: firmware may try, and gets its refusal. */

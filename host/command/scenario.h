@@ -17,9 +17,6 @@ void write_event(struct text *scenario, const uint8_t *event);
 /* A comment behind that, which begins with a space; where it can, in the column of the others. */
 void write_comment(struct text *line, const char *comment);
 
-/* Has a register this number? */
-int is_register(uint32_t number);
-
 /* The frames of a log of can-utils, as the third section of a scenario. For nothing where the lines have faults. */
 void read_candump(struct lines *log, struct text *scenario);
 

@@ -88,12 +88,12 @@ static void say_refusal(struct text *t, const struct run *r, int step)
 {
     uint32_t refusal = frostsorrel_answer_refusal(r->step[step].answer);
 
-    text_add(t, "REFUSED %lu, %s: ", (unsigned long)refusal, frostsorrel_refusal_name(refusal));
+    text_add(t, "REFUSED %lu, %s: ", wide(refusal), frostsorrel_refusal_name(refusal));
     say_reason(t, r->image[step - 1], r->step[step].event, refusal);
 }
 
 /* What may be wrong in an event that is refused for its own bytes is best seen in them. */
-static void say_bytes(struct text *t, const struct run *r, int step)
+static void say_raw(struct text *t, const struct run *r, int step)
 {
     int refusal = refusal_of(r, step);
 
@@ -130,8 +130,8 @@ static int tell_changes(struct pen *p, const struct run *r, int first, int last)
 
     for (int word = next_change(before, after, 0); word < WORDS; word = next_change(before, after, word + 1)) {
         say_change(&words, before, after, word);
-        text_add(&numbers, "0x%08lX -> 0x%08lX", (unsigned long)frostsorrel_word(before + 4 * word),
-                 (unsigned long)frostsorrel_word(after + 4 * word));
+        text_add(&numbers, "0x%08lX -> 0x%08lX", wide(frostsorrel_word(before + 4 * word)),
+                 wide(frostsorrel_word(after + 4 * word)));
         put_detail(p, CHANGED, &words, &numbers);
         changes++;
     }
@@ -150,7 +150,7 @@ static void tell_row(struct pen *p, const struct run *r, int first, int last)
     p->step(p, first, last, event.at, answer.length ? answer.at : "");
     if (refused) {
         say_refusal(&words, r, first);
-        say_bytes(&numbers, r, first);
+        say_raw(&numbers, r, first);
         put_detail(p, REFUSAL, &words, &numbers);
     }
     tell_entries(p, r, first);
@@ -336,10 +336,10 @@ void tell_state(struct pen *p, const struct run *r)
     text_add(&t, "slot:");
     say_slot(&t, slot);
     put_line(p, &t);
-    text_add(&t, "TEC %lu, REC %lu: error state %s", (unsigned long)frostsorrel_register_word(image, FROSTSORREL_TEC),
-             (unsigned long)frostsorrel_register_word(image, FROSTSORREL_REC), error_state(image));
+    text_add(&t, "TEC %lu, REC %lu: error state %s", wide(frostsorrel_register_word(image, FROSTSORREL_TEC)),
+             wide(frostsorrel_register_word(image, FROSTSORREL_REC)), error_state(image));
     put_line(p, &t);
-    text_add(&t, "TSC %lu", (unsigned long)frostsorrel_register_word(image, FROSTSORREL_TSC));
+    text_add(&t, "TSC %lu", wide(frostsorrel_register_word(image, FROSTSORREL_TSC)));
     put_line(p, &t);
     tell_flags(p, image, FROSTSORREL_RMP, "a frame is held");
     tell_flags(p, image, FROSTSORREL_RML, "a frame was lost since the last release");

@@ -12,17 +12,6 @@ static const char help[] =
     "`tick x 3`. A file that is no trace is told on standard error, and the exit status is 1.\n"
     "`frostsorrel make --help` describes the language.\n";
 
-static unsigned long wide(uint32_t value)
-{
-    return value;
-}
-
-static void add_bytes(struct text *t, const uint8_t *bytes, int count)
-{
-    for (int i = 0; i < count; i++)
-        text_add(t, " %02X", bytes[i]);
-}
-
 /* ---- events that have a line */
 
 /* The event that has a line and comes closest to this one: only bytes that its operation uses, in their bounds. */
@@ -81,7 +70,7 @@ static void write_frame(struct text *t, const uint8_t *event)
     else if (event[1])
         text_add(t, " :");
     if (!(value & FROSTSORREL_FRAME_RTR))
-        add_bytes(t, event + 8, event[1]);
+        say_bytes(t, event + 8, event[1]);
 }
 
 static void write_known(struct text *t, const uint8_t *event)
@@ -113,7 +102,7 @@ void write_event(struct text *scenario, const uint8_t *event)
         write_known(scenario, event);
     } else {
         text_add(scenario, "raw");
-        add_bytes(scenario, event, FROSTSORREL_EVENT_BYTES);
+        say_bytes(scenario, event, FROSTSORREL_EVENT_BYTES);
     }
 }
 

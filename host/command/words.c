@@ -4,11 +4,6 @@
 
 /* ---- parts of words */
 
-static unsigned long wide(uint32_t value)
-{
-    return value;
-}
-
 /* The next row of bits without a gap, from this bit on. Answers its first bit and the bit behind it; 32 if none. */
 static int next_row(uint32_t bits, int from, int *behind)
 {
@@ -74,10 +69,15 @@ void say_identifier(struct text *t, uint32_t word_0)
         text_add(t, "0x%03lX", wide(frostsorrel_identifier(word_0)));
 }
 
-static void say_data(struct text *t, const uint8_t *data, int count)
+void say_bytes(struct text *t, const uint8_t *bytes, int count)
 {
     for (int i = 0; i < count; i++)
-        text_add(t, " %02X", data[i]);
+        text_add(t, " %02X", bytes[i]);
+}
+
+int is_register(uint32_t number)
+{
+    return number <= FROSTSORREL_REC || number == FROSTSORREL_GSR;
 }
 
 /* A register whose bit n is mailbox n's. */
@@ -97,7 +97,7 @@ static void say_register_write(struct text *t, const uint8_t *event)
 {
     uint32_t number = event[1], value = frostsorrel_event_value(event);
 
-    if (number <= FROSTSORREL_REC || number == FROSTSORREL_GSR)
+    if (is_register(number))
         text_add(t, "write %s = 0x%lX", frostsorrel_register_name(number), wide(value));
     else
         text_add(t, "write register %lu = 0x%lX", wide(number), wide(value));
@@ -137,7 +137,7 @@ static void say_mailbox_write(struct text *t, const uint8_t *event)
     else if (event[2] == 1)
         say_word_1(t, frostsorrel_event_value(event));
     else
-        say_data(t, event + 4, 4);
+        say_bytes(t, event + 4, 4);
 }
 
 static void say_frame(struct text *t, const uint8_t *event)
@@ -154,7 +154,7 @@ static void say_frame(struct text *t, const uint8_t *event)
     else
         text_add(t, " data");
     if (!remote)
-        say_data(t, event + 8, event[1] < 8 ? event[1] : 8);
+        say_bytes(t, event + 8, event[1] < 8 ? event[1] : 8);
 }
 
 static void say_mode(struct text *t, const uint8_t *event)
@@ -209,33 +209,22 @@ void say_event(struct text *t, const uint8_t *event)
 
 /* ---- answers and entries */
 
-/* Frames are heard, and sendings start, in normal mode alone, and not in bus off. */
-static const char *deaf(const uint8_t *image)
-{
-    uint32_t mode = frostsorrel_register_word(image, FROSTSORREL_WORD_MODE);
-
-    if (mode != FROSTSORREL_NORMAL)
-        return frostsorrel_mode_name(mode);
-    return frostsorrel_register_word(image, FROSTSORREL_TEC) == FROSTSORREL_BUS_OFF_TEC ? "bus off" : 0;
-}
-
+/* An answer is told as it is. Where it names no mailbox the state may say why: nothing is heard or sent but in normal. */
 void say_answer(struct text *t, const uint8_t *before, const uint8_t *event, uint64_t answer)
 {
     unsigned long n = frostsorrel_answer_mailbox(answer), count = (unsigned long)frostsorrel_answer_count(answer);
-    const char *why = deaf(before);
+    int is_frame = event[0] == FROSTSORREL_FRAME, is_normal = strcmp(state_of(before), "normal") == 0;
 
-    if (event[0] == FROSTSORREL_FRAME && why)
-        text_add(t, "not heard in %s", why);
-    else if (event[0] == FROSTSORREL_FRAME && n == FROSTSORREL_NO_MAILBOX)
+    if (n != FROSTSORREL_NO_MAILBOX)
+        text_add(t, is_frame ? "mailbox %lu, %lu compared" : "mailbox %lu", n, count);
+    else if (is_frame && (is_normal || count))
         text_add(t, "no mailbox takes it, %lu compared", count);
-    else if (event[0] == FROSTSORREL_FRAME)
-        text_add(t, "mailbox %lu, %lu compared", n, count);
-    else if (event[0] == FROSTSORREL_START && why)
-        text_add(t, "nothing is sent in %s", why);
-    else if (event[0] == FROSTSORREL_START && n == FROSTSORREL_NO_MAILBOX)
-        text_add(t, "no mailbox has anything to send");
-    else if (n != FROSTSORREL_NO_MAILBOX)
-        text_add(t, "mailbox %lu", n);
+    else if (is_frame)
+        text_add(t, "not heard in %s", state_of(before));
+    else if (event[0] == FROSTSORREL_START && is_normal)
+        text_add(t, "nothing to send: no enabled mailbox has a request that CDR does not hold back");
+    else if (event[0] == FROSTSORREL_START)
+        text_add(t, "nothing is sent in %s", state_of(before));
 }
 
 void say_made(struct text *t, const struct made *m, const uint8_t *before)
@@ -299,9 +288,9 @@ static void say_mailbox_change(struct text *t, const uint8_t *before, const uint
         if ((old ^ new) >> 16)
             say_numbers(t, " time stamp %lu -> %lu", old >> 16, new >> 16);
     } else {
-        say_data(t, before + 4 * word, 4);
+        say_bytes(t, before + 4 * word, 4);
         text_add(t, " ->");
-        say_data(t, after + 4 * word, 4);
+        say_bytes(t, after + 4 * word, 4);
     }
 }
 
@@ -360,6 +349,13 @@ void say_change(struct text *t, const uint8_t *before, const uint8_t *after, int
     else
         say_register_change(t, number, frostsorrel_register_word(before, number),
                             frostsorrel_register_word(after, number));
+}
+
+const char *state_of(const uint8_t *image)
+{
+    if (frostsorrel_register_word(image, FROSTSORREL_TEC) == FROSTSORREL_BUS_OFF_TEC)
+        return "bus off";
+    return frostsorrel_mode_name(frostsorrel_register_word(image, FROSTSORREL_WORD_MODE));
 }
 
 const char *error_state(const uint8_t *image)

@@ -26,17 +26,26 @@ int next_change(const uint8_t *before, const uint8_t *after, int from);
 /* How that word changed: "RML: +5", "mailbox 5 word 1: DLC 4 -> 3". */
 void say_change(struct text *t, const uint8_t *before, const uint8_t *after, int word);
 
+/* Has a register this number? It may be one that can only be read. */
+int is_register(uint32_t number);
+
 /* "0x718", "ext 0x1234567": what word 0 of a mailbox, or a frame's value, has as identifier. */
 void say_identifier(struct text *t, uint32_t word_0);
 
 /* "mailbox 5", "mailboxes 2, 5 to 7", "no mailbox": the bits of a flag word. */
 void say_mailboxes(struct text *t, uint32_t bits);
 
+/* " 03 7F 11 22" */
+void say_bytes(struct text *t, const uint8_t *bytes, int count);
+
 /* " empty", " mailbox 2": the slot. */
 void say_slot(struct text *t, uint32_t slot);
 
 /* " 5 RMLIF": the bits of GIF or GIM by number and by the name that GIF has for them, each with a sign before it. */
 void say_interrupts(struct text *t, const char *sign, uint32_t bits);
+
+/* "normal", "configuration", "sleep", "suspend", or "bus off", which stands beside the modes here. */
+const char *state_of(const uint8_t *image);
 
 /* "active", "warning", "passive" or "bus off": where TEC and REC stand, from GSR. */
 const char *error_state(const uint8_t *image);
