@@ -22,15 +22,18 @@ static int lines_with(const struct text *t, const char *words)
     return lines;
 }
 
-/* A reason names what is there: a byte that is not 0, mailboxes that are some. */
-static void check_reason(const struct run *r, int step, const char *name)
+/*
+ * A sentence of its own is said only where it is true. So there has to be one, but for sleep and an empty slot, where the
+ * general one says it all.
+ */
+static void check_reason(const uint8_t *before, const uint8_t *event, uint32_t refusal, const char *name)
 {
-    uint32_t refusal = frostsorrel_answer_refusal(r->step[step].answer);
+    int general = refusal == FROSTSORREL_ASLEEP || refusal == FROSTSORREL_SLOT_EMPTY;
     struct text t = {0};
 
-    say_reason(&t, r->image[step - 1], r->step[step].event, refusal);
-    check(t.length > 10 && !strstr(t.at, "is 0x00;") && strncmp(t.at, "no mailbox", 10) != 0, "%s, step %d, refusal %u: %s", name,
-          step, (unsigned)refusal, t.at);
+    say_reason(&t, before, event, refusal);
+    check((strcmp(t.at, frostsorrel_refusal_reason(refusal)) == 0) == general, "%s: operation %d, refusal %u: %s", name,
+          event[0], (unsigned)refusal, t.at);
     text_free(&t);
 }
 
@@ -40,7 +43,7 @@ static int check_refusals(const struct run *r, const char *name)
 
     for (int k = 1; k <= r->steps; k++)
         if (frostsorrel_answer_refusal(r->step[k].answer) != FROSTSORREL_ACCEPTED) {
-            check_reason(r, k, name);
+            check_reason(r->image[k - 1], r->step[k].event, frostsorrel_answer_refusal(r->step[k].answer), name);
             refused++;
         }
     return refused;
@@ -113,6 +116,21 @@ static void check_any_bytes(void)
     check_bytes(file, "any bytes");
 }
 
+/* Images that no trace of these comes to. */
+static void check_any_image(void)
+{
+    uint8_t image[FROSTSORREL_IMAGE_BYTES], before[FROSTSORREL_IMAGE_BYTES], event[LONGEST_EVENT];
+    uint32_t refusal;
+
+    good_image(image);
+    memcpy(before, image, sizeof before);
+    if (varied_event(event, image) != FROSTSORREL_EVENT_BYTES)
+        return;
+    refusal = frostsorrel_answer_refusal(frostsorrel_step(image, sizeof image, event, FROSTSORREL_EVENT_BYTES));
+    if (refusal != FROSTSORREL_ACCEPTED)
+        check_reason(before, event, refusal, "any image");
+}
+
 int main(int argc, char **argv)
 {
     seed_generator(1);
@@ -120,5 +138,7 @@ int main(int argc, char **argv)
         check_file(argv[i]);
     for (int i = 0; i < 2000; i++)
         check_any_bytes();
+    for (int i = 0; i < 20000; i++)
+        check_any_image();
     return report("host report");
 }

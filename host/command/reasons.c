@@ -1,4 +1,7 @@
-/* Why a step was refused, told from the event and the image before it. The number itself comes from the library. */
+/*
+ * Why a step was refused, told from the event and the image before it. The number itself comes from the library, and a
+ * sentence is said only where it is true: with none that is, the general reason of that number stands.
+ */
 #include "words.h"
 
 static uint32_t word_of(const uint8_t *image, uint32_t number)
@@ -13,19 +16,24 @@ static int has(const uint8_t *image, uint32_t number, uint32_t mailbox)
 
 /* ---- 2: there is no such thing */
 
+static int is_only_read(uint32_t number)
+{
+    return number == FROSTSORREL_RML || number == FROSTSORREL_RFP || number > FROSTSORREL_TSC;
+}
+
 static void say_unknown(struct text *t, const uint8_t *event)
 {
     if (event[0] > FROSTSORREL_RESET)
         text_add(t, "there is no operation %d", event[0]);
     else if (event[0] == FROSTSORREL_OUTCOME)
         text_add(t, "there is no outcome %d", event[1]);
-    else if (event[0] == FROSTSORREL_WRITE_REGISTER && is_register(event[1]))
-        text_add(t, "%s can only be read", frostsorrel_register_name(event[1]));
-    else if (event[0] == FROSTSORREL_WRITE_REGISTER)
+    else if (event[0] == FROSTSORREL_WRITE_REGISTER && !is_register(event[1]))
         text_add(t, "there is no register %d", event[1]);
+    else if (event[0] == FROSTSORREL_WRITE_REGISTER && is_only_read(event[1]))
+        text_add(t, "%s can only be read", frostsorrel_register_name(event[1]));
     else if (event[1] >= FROSTSORREL_MAILBOXES)
         text_add(t, "there is no mailbox %d", event[1]);
-    else
+    else if (event[2] > 3)
         text_add(t, "a mailbox has no word %d", event[2]);
 }
 
@@ -118,24 +126,35 @@ static void say_not_allowed(struct text *t, const uint8_t *event)
     const char *why = bad_value(event);
     int byte = 1;
 
-    while (byte < FROSTSORREL_EVENT_BYTES - 1 && (uses(event, byte) || event[byte] == 0))
+    while (byte < FROSTSORREL_EVENT_BYTES && (uses(event, byte) || event[byte] == 0))
         byte++;
     if (why)
         text_add(t, "%s", why);
-    else
+    else if (byte < FROSTSORREL_EVENT_BYTES)
         text_add(t, "byte %d of the event is 0x%02X; it is not used and must be 0", byte, event[byte]);
 }
 
 /* ---- 5: busy */
 
+/* What cannot be done at these mailboxes; nothing where there are none. */
+static void say_forbidden(struct text *t, uint32_t mailboxes, const char *what)
+{
+    if (!mailboxes)
+        return;
+    say_mailboxes(t, mailboxes);
+    text_add(t, "%s", what);
+}
+
 /* An MC write is busy where it turns off a mailbox, an MD write where it turns one round. */
 static void say_busy_write(struct text *t, const uint8_t *before, const uint8_t *event)
 {
-    uint32_t value = frostsorrel_event_value(event), turned = value ^ word_of(before, FROSTSORREL_MD);
-    int off = event[1] == FROSTSORREL_MC;
+    uint32_t value = frostsorrel_event_value(event), off = word_of(before, FROSTSORREL_MC) & ~value;
+    uint32_t turned = word_of(before, FROSTSORREL_MD) ^ value, waiting = word_of(before, FROSTSORREL_TRS);
 
-    say_mailboxes(t, word_of(before, FROSTSORREL_TRS) & (off ? word_of(before, FROSTSORREL_MC) & ~value : turned));
-    text_add(t, " cannot be turned %s while a request waits there (TRS)", off ? "off" : "round");
+    if (event[1] == FROSTSORREL_MC)
+        say_forbidden(t, off & waiting, " cannot be turned off while a request waits there (TRS)");
+    else
+        say_forbidden(t, turned & waiting, " cannot be turned round while a request waits there (TRS)");
 }
 
 static void say_busy(struct text *t, const uint8_t *before, const uint8_t *event)
@@ -144,44 +163,45 @@ static void say_busy(struct text *t, const uint8_t *before, const uint8_t *event
 
     if (event[0] == FROSTSORREL_WRITE_REGISTER)
         say_busy_write(t, before, event);
-    else if (event[0] == FROSTSORREL_WRITE_MAILBOX && event[1] != slot)
-        text_add(t, "a request waits at mailbox %d (TRS), and CDR does not hold it back", event[1]);
-    else
+    else if (slot != FROSTSORREL_EMPTY_SLOT && (event[0] != FROSTSORREL_WRITE_MAILBOX || event[1] == slot))
         text_add(t, "mailbox %lu is being sent", wide(slot));
+    else if (event[0] == FROSTSORREL_WRITE_MAILBOX && has(before, FROSTSORREL_TRS, event[1]) &&
+             !has(before, FROSTSORREL_CDR, event[1]))
+        text_add(t, "a request waits at mailbox %d (TRS), and CDR does not hold it back", event[1]);
 }
 
 /* ---- 6: locked */
 
 static void say_locked_write(struct text *t, const uint8_t *before, const uint8_t *event)
 {
-    uint32_t turned = frostsorrel_event_value(event) ^ word_of(before, FROSTSORREL_MD);
+    uint32_t turned = (frostsorrel_event_value(event) ^ word_of(before, FROSTSORREL_MD)) & ~BIT(31);
 
-    if (event[1] != FROSTSORREL_MD) {
+    if (event[1] == FROSTSORREL_MD)
+        say_forbidden(t, turned & word_of(before, FROSTSORREL_MC), " cannot be turned round while enabled (MC)");
+    else if (word_of(before, FROSTSORREL_WORD_MODE) != FROSTSORREL_CONFIGURATION)
         text_add(t, "%s can be written in configuration only", frostsorrel_register_name(event[1]));
-        return;
-    }
-    say_mailboxes(t, turned & word_of(before, FROSTSORREL_MC) & ~BIT(31));
-    text_add(t, " cannot be turned round while enabled (MC)");
 }
 
 static void say_locked_mailbox(struct text *t, const uint8_t *before, const uint8_t *event)
 {
+    if (!has(before, FROSTSORREL_MC, event[1]))
+        return;
     if (event[2] == 0)
         text_add(t, "mailbox %d is enabled (MC), so its word 0 is fixed", event[1]);
     else if (has(before, FROSTSORREL_MD, event[1]))
         text_add(t, "mailbox %d is enabled (MC) and receives, so its data is not the firmware's to write", event[1]);
-    else
+    else if (frostsorrel_mailbox_word(before, event[1], 0) & FROSTSORREL_RFH && !has(before, FROSTSORREL_CDR, event[1]))
         text_add(t, "mailbox %d is enabled (MC) and replies by itself (RFH): CDR must be set first", event[1]);
 }
 
 static void say_locked_mode(struct text *t, const uint8_t *before, const uint8_t *event)
 {
-    uint32_t mode = word_of(before, FROSTSORREL_WORD_MODE);
+    uint32_t mode = word_of(before, FROSTSORREL_WORD_MODE), wanted = frostsorrel_event_value(event);
 
-    if (frostsorrel_event_value(event) == FROSTSORREL_NORMAL)
+    if (mode == FROSTSORREL_CONFIGURATION && wanted == FROSTSORREL_NORMAL)
         text_add(t, "BCR2 is 0x%lX: TSEG1 and TSEG2 must not be 0, and SJW must not be above TSEG2",
                  wide(word_of(before, FROSTSORREL_BCR2)));
-    else
+    else if (mode != FROSTSORREL_NORMAL && wanted != FROSTSORREL_NORMAL)
         text_add(t, "%s can be left for normal only", frostsorrel_mode_name(mode));
 }
 
@@ -189,6 +209,8 @@ static void say_locked_mode(struct text *t, const uint8_t *before, const uint8_t
 
 void say_reason(struct text *t, const uint8_t *before, const uint8_t *event, uint32_t refusal)
 {
+    size_t length = t->length;
+
     if (refusal == FROSTSORREL_UNKNOWN)
         say_unknown(t, event);
     else if (refusal == FROSTSORREL_NOT_ALLOWED)
@@ -201,6 +223,6 @@ void say_reason(struct text *t, const uint8_t *before, const uint8_t *event, uin
         say_locked_mailbox(t, before, event);
     else if (refusal == FROSTSORREL_LOCKED)
         say_locked_mode(t, before, event);
-    else
+    if (t->length == length)
         text_add(t, "%s", frostsorrel_refusal_reason(refusal));
 }

@@ -43,7 +43,7 @@ static void text_heading(struct pen *p, const char *words)
 static void text_line(struct pen *p, enum kind kind, const char *words)
 {
     text_add(&p->out, "  ");
-    put_coloured(p, kind == CHANGED ? "" : colour_of(kind), words);
+    put_coloured(p, colour_of(kind), words);
     text_add(&p->out, "\n");
 }
 
@@ -122,9 +122,11 @@ static int take_word(int *argc, char **argv, const char *word)
     return 0;
 }
 
+/* That the library refuses it as well is one of the checks; where it does not, that is told too. */
 static void write_refused(struct text *out, const struct run *r, const char *name)
 {
-    text_add(out, "trace refused %d: %s\n%s\n", FROSTSORREL_BAD_TRACE, name, r->trace.fault.at);
+    text_add(out, "trace refused %d: %s\n%s\n%s", FROSTSORREL_BAD_TRACE, name, r->trace.fault.at,
+             r->fault.length ? r->fault.at : "");
 }
 
 int command_report(int argc, char **argv)

@@ -47,7 +47,7 @@ static void check_listing(struct run *r)
 
     write_listing(&own, r);
     if (length != own.length || memcmp(listing, own.at, own.length) != 0)
-        text_add(&r->fault, "the listing is not the one that the steps give\n");
+        text_add(&r->fault, "the library's listing is another than the steps give\n");
     text_free(&own);
     free(listing);
 }
