@@ -1,6 +1,7 @@
 /*
- * Keeps the books of every mailbox over long random runs of frostsorrel_step, as the report does, and compares
- * them with the image after every step.
+ * Keeps the books of every mailbox over long random runs of frostsorrel_step, with the code that the report has, and
+ * compares them with the image after every step: what is held, lost and waiting with RMP, RML and TRS, and how each
+ * frame and request ended with what the books never look at, TA, AA, GIF and the mode that the step leaves.
  */
 #include "check.h"
 #include "command/books.h"
@@ -32,6 +33,44 @@ static void check_books(const struct books *b, const uint8_t *image, unsigned lo
     check(n == FROSTSORREL_MAILBOXES, "run %lu, step %d: the books of mailbox %d do not balance", run, step, n);
 }
 
+/* Does the image after the step say so too? Of what begins RMP and TRS do. */
+static int fits(const struct made *m, const uint8_t *event, const uint8_t *image)
+{
+    switch (m->entry) {
+    case RELEASED: return event[0] == FROSTSORREL_WRITE_REGISTER && event[1] == FROSTSORREL_RMP;
+    case OVERWRITTEN: return (word_of(image, GIF) & FROSTSORREL_RMLIF) != 0;
+    case SENDINGS: return (word_of(image, TA) & BIT(m->mailbox)) != 0;
+    case ABORTED: return (word_of(image, AA) & BIT(m->mailbox)) != 0;
+    case SLEPT: return word_of(image, MODE) == SLEEP;
+    case FRAME_RESET:
+    case REQUEST_RESET: return event[0] == FROSTSORREL_RESET;
+    default: return 1;
+    }
+}
+
+/* The mailboxes that have such an entry in the latest step. */
+static uint32_t booked_now(const struct books *b, enum entry entry)
+{
+    uint32_t found = 0;
+
+    for (int i = 0; i < b->mades; i++)
+        if (b->made[i].entry == entry)
+            found |= BIT(b->made[i].mailbox);
+    return found;
+}
+
+static void check_entries(const struct books *b, const uint8_t *before, const uint8_t *event, const uint8_t *image,
+                          unsigned long run, int step)
+{
+    uint32_t sent = word_of(image, TA) & ~word_of(before, TA), aborted = word_of(image, AA) & ~word_of(before, AA);
+
+    for (int i = 0; i < b->mades; i++)
+        check(fits(&b->made[i], event, image), "run %lu, step %d: mailbox %d was not %s", run, step,
+              b->made[i].mailbox, entry_names[b->made[i].entry]);
+    check(!(sent & ~booked_now(b, SENDINGS)), "run %lu, step %d: TA rises, and nothing is booked as sent", run, step);
+    check(!(aborted & ~booked_now(b, ABORTED)), "run %lu, step %d: AA rises, and nothing is booked as aborted", run, step);
+}
+
 static void run(unsigned long number, int steps, struct books *b)
 {
     uint8_t image[BYTES], before[BYTES], event[LONGEST_EVENT];
@@ -46,6 +85,7 @@ static void run(unsigned long number, int steps, struct books *b)
         answer = frostsorrel_step(image, BYTES, event, len);
         book(b, before, event, answer);
         check_books(b, image, number, step);
+        check_entries(b, before, event, image, number, step);
     }
 }
 
