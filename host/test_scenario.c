@@ -78,30 +78,15 @@ static struct bytes copy_of(const struct text *from)
 }
 
 /* The sections of a trace; answers whether it is one. */
-static int take_apart(struct trace *t, struct bytes file)
+static int take_apart(struct trace *t, const struct text *from)
 {
-    const uint8_t *at = file.at, *end = at + file.length;
-
     memset(t, 0, sizeof *t);
-    t->file = file;
-    for (int section = 0; section < SECTIONS; section++) {
-        struct section *s = &t->section[section];
-
-        if (end - at < 2)
-            return 0;
-        s->count = at[0] + 256 * at[1];
-        s->events = at + 2;
-        at += 2 + (long)EVENT_BYTES * s->count;
-        if (s->count > FROSTSORREL_SECTION_EVENTS || at > end)
-            return 0;
-        for (int i = 0; i < s->count; i++)
-            if (!belongs(section, s->events[EVENT_BYTES * i]))
-                return 0;
-    }
-    return at == end;
+    t->file = copy_of(from);
+    split_trace(t);
+    return t->fault.length == 0;
 }
 
-/* Does this scenario make that trace? Answers whether it has no faults. */
+/* Makes the trace of a scenario. Answers whether it has no faults. */
 static int makes(const struct text *scenario, struct text *trace)
 {
     struct bytes text = copy_of(scenario);
@@ -124,7 +109,7 @@ static void comes_back(const char *what, const struct text *trace)
     struct text scenario = {0}, again = {0};
     struct trace t;
 
-    check(take_apart(&t, copy_of(trace)), "%s: no trace", what);
+    check(take_apart(&t, trace), "%s: no trace", what);
     write_scenario(&scenario, &t);
     check(makes(&scenario, &again), "%s: what text writes is not understood:\n%s", what, scenario.at);
     check(again.length == trace->length && memcmp(again.at, trace->at, again.length) == 0,
@@ -239,7 +224,7 @@ static int filled_lines(const struct text *t)
 
     for (size_t i = 0; i <= t->length; i++) {
         if (i < t->length && t->at[i] != '\n') {
-            since += t->at[i] != ' ' && t->at[i] != '\t' && t->at[i] != '\r';
+            since += !is_space(t->at[i]);
             continue;
         }
         count += since > 0;
@@ -255,7 +240,7 @@ static void frames_of(const struct text *log, const struct text *frames)
     struct trace t;
 
     check(makes(frames, &trace), "what candump writes is not understood:\n%s", frames->at);
-    check(take_apart(&t, copy_of(&trace)), "what candump writes makes no trace");
+    check(take_apart(&t, &trace), "what candump writes makes no trace");
     check(t.section[2].count == filled_lines(log) && (long)trace.length == 6 + EVENT_BYTES * (long)t.section[2].count,
           "%d lines, %d frames", filled_lines(log), t.section[2].count);
     for (int i = 0; i < t.section[2].count; i++)
