@@ -37,11 +37,11 @@ static const char head[] =
 
 /* ---- the pen */
 
-/* Words as a page needs them; an arrow becomes one. */
+/* Words as a page needs them; an arrow between words becomes one. */
 static void add_escaped(struct text *t, const char *words)
 {
     for (; *words; words++) {
-        if (words[0] == '-' && words[1] == '>') {
+        if (strncmp(words, "-> ", 3) == 0) {
             text_add(t, "&rarr;");
             words++;
         } else if (*words == '&') {
