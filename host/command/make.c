@@ -67,28 +67,24 @@ static int same_file(const char *a, const char *b)
            first.st_ino == second.st_ino;
 }
 
-/* SCENARIO, and where the trace goes, 0 if nothing says so. Answers 0 after a message. */
+/* SCENARIO, and where the trace goes, 0 if nothing says so. Answers COMMAND_DONE, or COMMAND_FAILED after a message. */
 static int understand(int argc, char **argv, const char **scenario, const char **trace)
 {
     *scenario = *trace = 0;
     for (int i = 1; i < argc; i++) {
         if (strcmp(argv[i], "-o") == 0) {
             if (*trace || ++i == argc)
-                return misused("make", *trace ? "-o stands there twice" : "-o needs a file"), 0;
+                return misused("make", *trace ? "-o stands there twice" : "-o needs a file");
             *trace = argv[i];
         } else if (argv[i][0] == '-' && argv[i][1]) {
-            return misused("make", "no option %s", argv[i]), 0;
+            return misused("make", "no option %s", argv[i]);
         } else if (*scenario) {
-            return misused("make", "one scenario at a time: %s", argv[i]), 0;
+            return misused("make", "one scenario at a time: %s", argv[i]);
         } else {
             *scenario = argv[i];
         }
     }
-    if (!*scenario)
-        return misused("make", "which scenario?"), 0;
-    if (*trace && strcmp(*scenario, "-") != 0 && same_file(*scenario, *trace))
-        return misused("make", "%s is the scenario: its trace needs another file", *trace), 0;
-    return 1;
+    return *scenario ? COMMAND_DONE : misused("make", "which scenario?");
 }
 
 /* NAME.trace for NAME.txt, and for NAME; - for -. */
@@ -113,6 +109,8 @@ static int make(const char *scenario, const char *to)
     struct text trace = {0};
     int status;
 
+    if (strcmp(scenario, "-") != 0 && same_file(scenario, to))
+        return misused("make", "%s is the scenario: its trace needs another file", to);
     if (read_text(scenario, &text) != COMMAND_DONE)
         return COMMAND_FAILED;
     start_lines(&lines, name_of_input(scenario), &text);
@@ -134,7 +132,7 @@ int command_make(int argc, char **argv)
 
     if (asks_help(argc, argv))
         return show_help(help);
-    if (!understand(argc, argv, &scenario, &trace))
+    if (understand(argc, argv, &scenario, &trace) != COMMAND_DONE)
         return COMMAND_FAILED;
     name_trace(&name, scenario);
     status = make(scenario, trace ? trace : name.at);
