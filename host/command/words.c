@@ -267,26 +267,36 @@ static void say_flag(struct text *t, uint32_t old, uint32_t new, uint32_t bit, c
         text_add(t, " %c%s", new & bit ? '+' : '-', name);
 }
 
+static void say_word_0_change(struct text *t, uint32_t old, uint32_t new)
+{
+    if ((old ^ new) & (FROSTSORREL_IDE | FROSTSORREL_IDENTIFIER_BITS)) {
+        text_add(t, " identifier ");
+        say_identifier(t, old);
+        text_add(t, " -> ");
+        say_identifier(t, new);
+    }
+    say_flag(t, old, new, FROSTSORREL_GAME, "masked");
+    say_flag(t, old, new, FROSTSORREL_RFH, "RFH");
+}
+
+static void say_word_1_change(struct text *t, uint32_t old, uint32_t new)
+{
+    if ((old ^ new) & FROSTSORREL_DLC_BITS)
+        say_numbers(t, " DLC %lu -> %lu", old & FROSTSORREL_DLC_BITS, new & FROSTSORREL_DLC_BITS);
+    say_flag(t, old, new, FROSTSORREL_RTR, "RTR");
+    if ((old ^ new) >> 16)
+        say_numbers(t, " time stamp %lu -> %lu", old >> 16, new >> 16);
+}
+
 static void say_mailbox_change(struct text *t, const uint8_t *before, const uint8_t *after, int word)
 {
     uint32_t old = frostsorrel_word(before + 4 * word), new = frostsorrel_word(after + 4 * word);
 
     text_add(t, "mailbox %d word %d:", word / 4, word % 4);
     if (word % 4 == 0) {
-        if ((old ^ new) & (FROSTSORREL_IDE | FROSTSORREL_IDENTIFIER_BITS)) {
-            text_add(t, " identifier ");
-            say_identifier(t, old);
-            text_add(t, " -> ");
-            say_identifier(t, new);
-        }
-        say_flag(t, old, new, FROSTSORREL_GAME, "masked");
-        say_flag(t, old, new, FROSTSORREL_RFH, "RFH");
+        say_word_0_change(t, old, new);
     } else if (word % 4 == 1) {
-        if ((old ^ new) & FROSTSORREL_DLC_BITS)
-            say_numbers(t, " DLC %lu -> %lu", old & FROSTSORREL_DLC_BITS, new & FROSTSORREL_DLC_BITS);
-        say_flag(t, old, new, FROSTSORREL_RTR, "RTR");
-        if ((old ^ new) >> 16)
-            say_numbers(t, " time stamp %lu -> %lu", old >> 16, new >> 16);
+        say_word_1_change(t, old, new);
     } else {
         say_bytes(t, before + 4 * word, 4);
         text_add(t, " ->");
