@@ -1,5 +1,4 @@
 /* frostsorrel candump LOG: the frames of a can-utils log, for a scenario. */
-#include <stdlib.h>
 #include <string.h>
 
 #include "scenario.h"
@@ -268,23 +267,9 @@ void read_candump(struct lines *lines, struct text *scenario)
 int command_candump(int argc, char **argv)
 {
     const char *path;
-    struct bytes text;
-    struct lines lines;
-    struct text scenario = {0};
-    int status;
 
     if (asks_help(argc, argv))
         return show_help(help);
     path = only_file(argc, argv);
-    if (!path || read_text(path, &text) != COMMAND_DONE)
-        return COMMAND_FAILED;
-    start_lines(&lines, name_of_input(path), &text);
-    read_candump(&lines, &scenario);
-    status = tell_faults(&lines);
-    if (status == COMMAND_DONE)
-        status = text_show(&scenario, 0);
-    text_free(&scenario);
-    text_free(&lines.faults);
-    free(text.at);
-    return status;
+    return path ? turn_text(path, 0, read_candump) : COMMAND_FAILED;
 }

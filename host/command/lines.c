@@ -7,16 +7,7 @@
 
 enum { LONGEST_TEXT = 4 << 20, LONGEST_QUOTED = 60, MOST_TOLD = 20 };
 
-int read_text(const char *path, struct bytes *into)
-{
-    if (read_whole(path, LONGEST_TEXT, into) != COMMAND_DONE)
-        return COMMAND_FAILED;
-    if (into->length <= LONGEST_TEXT)
-        return COMMAND_DONE;
-    complain("%s: longer than 4 MiB, so it is none of the texts that this reads", name_of_input(path));
-    free(into->at);
-    return COMMAND_FAILED;
-}
+/* ---- lines and their faults */
 
 void start_lines(struct lines *l, const char *name, const struct bytes *text)
 {
@@ -81,7 +72,21 @@ void add_quoted(struct text *t, const char *at, size_t length)
         text_add(t, "...");
 }
 
-int tell_faults(const struct lines *l)
+/* ---- a whole text */
+
+/* Answers COMMAND_DONE, or COMMAND_FAILED after a message, and then there is nothing to free. */
+static int read_text(const char *path, struct bytes *into)
+{
+    if (read_whole(path, LONGEST_TEXT, into) != COMMAND_DONE)
+        return COMMAND_FAILED;
+    if (into->length <= LONGEST_TEXT)
+        return COMMAND_DONE;
+    complain("%s: longer than 4 MiB, so it is none of the texts that this reads", name_of_input(path));
+    free(into->at);
+    return COMMAND_FAILED;
+}
+
+static int tell_faults(const struct lines *l)
 {
     if (!l->faulty)
         return COMMAND_DONE;
@@ -89,4 +94,24 @@ int tell_faults(const struct lines *l)
     complain("%s: %d %s%s, nothing was written", l->name, l->faulty, l->faulty == 1 ? "fault" : "faults",
              l->faulty > MOST_TOLD ? ", the first of them above" : "");
     return COMMAND_FAILED;
+}
+
+int turn_text(const char *from, const char *to, void (*turn)(struct lines *text, struct text *out))
+{
+    struct bytes text;
+    struct lines lines;
+    struct text out = {0};
+    int status;
+
+    if (read_text(from, &text) != COMMAND_DONE)
+        return COMMAND_FAILED;
+    start_lines(&lines, name_of_input(from), &text);
+    turn(&lines, &out);
+    status = tell_faults(&lines);
+    if (status == COMMAND_DONE)
+        status = text_show(&out, to);
+    text_free(&out);
+    text_free(&lines.faults);
+    free(text.at);
+    return status;
 }

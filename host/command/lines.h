@@ -15,10 +15,11 @@ struct lines {
 };
 
 /*
- * Reads a text, standard input for "-"; one of more than 4 MiB is refused. Answers COMMAND_DONE, or
- * COMMAND_FAILED after a message, and then there is nothing to free.
+ * Reads a text, standard input for "-", turns its lines into something else, and writes that, to standard output where
+ * the path is 0 or "-". One of more than 4 MiB is refused. Where a line is faulty the faults are told and nothing is
+ * written. Answers an exit status.
  */
-int read_text(const char *path, struct bytes *into);
+int turn_text(const char *from, const char *to, void (*turn)(struct lines *text, struct text *out));
 
 /* Starts before the first line. A mark of the byte order in front is no part of it. */
 void start_lines(struct lines *l, const char *name, const struct bytes *text);
@@ -37,8 +38,5 @@ int digit(char c);
 
 /* Adds words of a file to a message, cut short, and bytes that do not print as \xHH. */
 void add_quoted(struct text *t, const char *at, size_t length);
-
-/* Tells the faults on standard error, and that nothing was written. Answers COMMAND_DONE where there are none. */
-int tell_faults(const struct lines *l);
 
 #endif

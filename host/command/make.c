@@ -1,7 +1,6 @@
+/* frostsorrel make SCENARIO [-o TRACE]: a trace made of a scenario. */
 #define _XOPEN_SOURCE 700 /* stat beside C99 */
 
-/* frostsorrel make SCENARIO [-o TRACE]: a trace made of a scenario. */
-#include <stdlib.h>
 #include <string.h>
 #include <sys/stat.h>
 
@@ -102,28 +101,6 @@ static void name_trace(struct text *name, const char *scenario)
     text_add(name, ".trace");
 }
 
-static int make(const char *scenario, const char *to)
-{
-    struct bytes text;
-    struct lines lines;
-    struct text trace = {0};
-    int status;
-
-    if (strcmp(scenario, "-") != 0 && same_file(scenario, to))
-        return misused("make", "%s is the scenario: its trace needs another file", to);
-    if (read_text(scenario, &text) != COMMAND_DONE)
-        return COMMAND_FAILED;
-    start_lines(&lines, name_of_input(scenario), &text);
-    make_trace(&lines, &trace);
-    status = tell_faults(&lines);
-    if (status == COMMAND_DONE)
-        status = text_show(&trace, to);
-    text_free(&trace);
-    text_free(&lines.faults);
-    free(text.at);
-    return status;
-}
-
 int command_make(int argc, char **argv)
 {
     struct text name = {0};
@@ -135,7 +112,12 @@ int command_make(int argc, char **argv)
     if (understand(argc, argv, &scenario, &trace) != COMMAND_DONE)
         return COMMAND_FAILED;
     name_trace(&name, scenario);
-    status = make(scenario, trace ? trace : name.at);
+    if (!trace)
+        trace = name.at;
+    if (strcmp(scenario, "-") != 0 && same_file(scenario, trace))
+        status = misused("make", "%s is the scenario: its trace needs another file", trace);
+    else
+        status = turn_text(scenario, trace, make_trace);
     text_free(&name);
     return status;
 }
