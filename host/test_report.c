@@ -42,8 +42,8 @@ static int check_refusals(const struct run *r, const char *name)
     int refused = 0;
 
     for (int k = 1; k <= r->steps; k++)
-        if (frostsorrel_answer_refusal(r->step[k].answer) != FROSTSORREL_ACCEPTED) {
-            check_reason(r->image[k - 1], r->step[k].event, frostsorrel_answer_refusal(r->step[k].answer), name);
+        if (refusal_of(r, k) != FROSTSORREL_ACCEPTED) {
+            check_reason(r->image[k - 1], r->step[k].event, refusal_of(r, k), name);
             refused++;
         }
     return refused;

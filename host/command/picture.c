@@ -160,15 +160,10 @@ static void draw_modes(struct band *b)
     b->bottom += STRIP_HEIGHT;
 }
 
-static int is_refused(const struct run *r, int step)
-{
-    return frostsorrel_answer_refusal(r->step[step].answer) != FROSTSORREL_ACCEPTED;
-}
-
 static int has_refusals(const struct band *b)
 {
     for (int k = b->first; k <= b->last; k++)
-        if (is_refused(b->run, k))
+        if (refusal_of(b->run, k) != FROSTSORREL_ACCEPTED)
             return 1;
     return 0;
 }
@@ -177,7 +172,7 @@ static void draw_refusals(struct band *b)
 {
     draw_words(b->out, "name", NAMES, b->bottom + 16, "refused");
     for (int k = b->first; k <= b->last; k++)
-        if (is_refused(b->run, k))
+        if (refusal_of(b->run, k) != FROSTSORREL_ACCEPTED)
             draw_mark(b, REFUSED, k, b->bottom + STRIP_HEIGHT / 2);
     b->bottom += STRIP_HEIGHT;
 }
@@ -213,8 +208,8 @@ static void draw_slot_marks(struct band *b, int n, double y)
     for (int k = b->first; k <= b->last; k++) {
         const struct step *s = &b->run->step[k];
 
-        if (is_refused(b->run, k) || frostsorrel_answer_mailbox(s->answer) != (uint32_t)n)
-            continue;
+        if (frostsorrel_answer_mailbox(s->answer) != (uint32_t)n)
+            continue; /* a refused step names none */
         if (s->event[0] == FROSTSORREL_START)
             draw_mark(b, START, k, y);
         if (s->event[0] == FROSTSORREL_OUTCOME && is_up(b, FROSTSORREL_TRS, k, n))
@@ -423,7 +418,7 @@ static int first_to_show(const struct run *r)
 {
     int start = r->trace.section[0].count + r->trace.section[1].count + 1, step = 1;
 
-    while (step < start && !is_refused(r, step) && r->step[step + 1].first_made == 0)
+    while (step < start && refusal_of(r, step) == FROSTSORREL_ACCEPTED && r->step[step + 1].first_made == 0)
         step++;
     return step;
 }

@@ -33,7 +33,7 @@ static void write_listing(struct text *t, const struct run *r)
     }
     text_add(t, "step code mailbox count\n");
     for (int k = 1; k <= r->steps; k++)
-        text_add(t, "%d %lu %lu %lu\n", k, wide(frostsorrel_answer_refusal(r->step[k].answer)),
+        text_add(t, "%d %lu %lu %lu\n", k, wide(refusal_of(r, k)),
                  wide(frostsorrel_answer_mailbox(r->step[k].answer)),
                  (unsigned long)frostsorrel_answer_count(r->step[k].answer));
     text_add(t, "end %d\n", r->steps);
@@ -104,4 +104,9 @@ void free_run(struct run *r)
     free(r->image);
     free(r->made);
     text_free(&r->fault);
+}
+
+uint32_t refusal_of(const struct run *r, int step)
+{
+    return frostsorrel_answer_refusal(r->step[step].answer);
 }

@@ -33,4 +33,7 @@ void run_steps(struct run *r);
 
 void free_run(struct run *r);
 
+/* What the step answered: 0 where it was accepted. */
+uint32_t refusal_of(const struct run *r, int step);
+
 #endif

@@ -6,11 +6,6 @@
 
 /* ---- the run as a whole */
 
-static int refusal_of(const struct run *r, int step)
-{
-    return (int)frostsorrel_answer_refusal(r->step[step].answer);
-}
-
 static int refusals_of(const struct run *r)
 {
     int sum = 0;
@@ -86,7 +81,7 @@ static int last_of_row(const struct run *r, int first)
 
 static void say_refusal(struct text *t, const struct run *r, int step)
 {
-    uint32_t refusal = frostsorrel_answer_refusal(r->step[step].answer);
+    uint32_t refusal = refusal_of(r, step);
 
     text_add(t, "REFUSED %lu, %s: ", wide(refusal), frostsorrel_refusal_name(refusal));
     say_reason(t, r->image[step - 1], r->step[step].event, refusal);
@@ -95,7 +90,7 @@ static void say_refusal(struct text *t, const struct run *r, int step)
 /* What may be wrong in an event that is refused for its own bytes is best seen in them. */
 static void say_raw(struct text *t, const struct run *r, int step)
 {
-    int refusal = refusal_of(r, step);
+    uint32_t refusal = refusal_of(r, step);
 
     if (refusal != FROSTSORREL_UNKNOWN && refusal != FROSTSORREL_NOT_ALLOWED)
         return;
