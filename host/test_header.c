@@ -186,14 +186,17 @@ static void names(void)
     static const char *const modes[] = {"normal", "configuration", "sleep", "suspend", "none"};
     static const char *const refusals[] = {"accepted", "bad image", "unknown", "asleep", "not allowed",
                                            "busy", "locked", "slot empty", "bad trace"};
+    static const char *const in_reason[] = {"taken", "the image is not", "there is no such", "while the model sleeps",
+                                            "the value is not allowed", "being sent, or waits", "in this mode",
+                                            "an outcome came while nothing", "three sections"};
 
     names_are("operation", frostsorrel_operation_name, operations, COUNT(operations));
     names_are("outcome", frostsorrel_outcome_name, outcomes, COUNT(outcomes));
     names_are("mode", frostsorrel_mode_name, modes, COUNT(modes));
     names_are("refusal", frostsorrel_refusal_name, refusals, COUNT(refusals));
     for (uint32_t refusal = 0; refusal < COUNT(refusals); refusal++)
-        check(strlen(frostsorrel_refusal_reason(refusal)) > 15, "refusal %lu has no reason",
-              (unsigned long)refusal);
+        check(strstr(frostsorrel_refusal_reason(refusal), in_reason[refusal]) != 0, "refusal %lu has the reason %s",
+              (unsigned long)refusal, frostsorrel_refusal_reason(refusal));
 }
 
 static void register_names(void)
