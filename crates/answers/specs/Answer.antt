@@ -14,7 +14,7 @@ pub record Outcome : Type 0 where
   pub mailbox : ℕ
   pub count : ℕ
 
--- The events, refusals: a refusal answers mailbox 32 and count 0 and leaves the image as it came.
+-- The events, refusals: a refused call names no mailbox, has compared none, and leaves the image as it came.
 abbrev pub refused : List ℕ → ℕ → Outcome
 refused s r = record { image = s; refusal = r; mailbox = noMailbox; count = 0 }
 

@@ -84,7 +84,7 @@ booked m events = books empty (history m freshImage events)
 -- ---- what is claimed
 
 -- Demand 3 of mailbox m, an image s and a book k: the book balances; RMP's bit is up exactly where a frame is held, RML's where
--- one was overwritten since the latest release or reset, TRS's where a request waits.
+-- one was lost, TRS's where a request waits.
 pub record Kept (m : ℕ) (s : List ℕ) (k : Book) : Type 0 where
   pub balanced : Balanced k
   pub pending : bit (blockOf s .rmp) m ≡ k .now .held

@@ -11,7 +11,7 @@ use Rattle.mailboxes.specs.Mailbox.{longest}
 use Rattle.mailboxes.specs.Filing.{dataBytes}
 use Rattle.events.specs.declared.Frame.{Frame}
 
--- The events: an event is 16 bytes: operation, target, word, an unused one, a value of four, eight data bytes.
+-- The events, 16 bytes each: one each for operation, target and word, an unused one, four for the value, eight of data.
 abbrev pub eventBytes : ℕ
 eventBytes = 16
 

@@ -35,8 +35,8 @@ freedBy mask w = cond (maskable w) mask 0
 abbrev pub freed : Block → ℕ → ℕ → ℕ
 freed b n w = freedBy (maskFor b n) w
 
--- Receiving: the bits of word 0 that are compared: IDE, and of the identifier the upper 11 bits for a standard frame and all 29
--- for an extended one.
+-- Receiving: the bits of word 0 that are compared: IDE, and of the identifier the upper 11 if the frame is standard, all 29 if it
+-- is extended.
 abbrev pub compared : Frame → ℕ
 compared f = cond (f .ide) 0x9FFFFFFF 0x9FFC0000
 
@@ -60,16 +60,16 @@ hits s f n = bit (candidates (blockOf s) f) n && matches (blockOf s) f n (mailbo
 abbrev pub comparedBelow : List ℕ → Frame → ℕ → ℕ
 comparedBelow s f n = countBelow (bit (candidates (blockOf s) f)) n
 
--- Receiving: the search, in the order of the numbers, stops at the first mailbox that matches; the count is that of the
--- mailboxes compared, this one included, or all of them where none matches.
+-- Receiving: the search goes by the numbers, and the first match ends it; the count is that of the mailboxes compared, this one
+-- included, or all of them where none matches.
 abbrev pub foundAt : List ℕ → Frame → ℕ → Found
 foundAt s f n = cond (ltb n mailboxes) (At n (comparedBelow s f (suc n))) (Missing (comparedBelow s f mailboxes))
 
 unfoldable pub found : List ℕ → Frame → Found
 found s f = foundAt s f (firstBelow (hits s f) mailboxes)
 
--- Receiving: at a receive mailbox the frame is stored; at a transmit mailbox with RFH 1 it asks for a reply; with RFH 0 it
--- goes nowhere, and the count is kept.
+-- Receiving: a mailbox that receives stores the frame; one that transmits is asked for a reply where it has RFH, and otherwise
+-- the frame goes nowhere, and the count is kept.
 unfoldable pub placed : List ℕ → Found → Delivery
 placed s (At n c) =
     cond (bit (blockOf s .md) n) (Into n c) (cond (rfh (mailboxWord s n 0)) (Reply n c) (Nowhere c))

@@ -140,7 +140,7 @@ goodBlock b = every (goodFlags b ∷ goodNumbers b ∷ goodSlot b ∷ [])
 unfoldable pub goodLayouts : List ℕ → Bool
 goodLayouts s = allBelow (layout s) mailboxes
 
--- The image: the words 28 to 31 are zero.
+-- The image: the four spare words, from 28 on, are zero.
 abbrev pub spareWords : List ℕ → List Bool
 spareWords s =
     eqb (wordAt s (registersAt + 4 * 28)) 0

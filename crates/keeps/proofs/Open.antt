@@ -44,7 +44,7 @@ risen-open a {b} i =
 
 -- ---- the end of the step
 
--- a mode is entered with an empty slot and TEC below 256
+-- a mode is entered where nothing is in the slot, outside bus off
 taken : {c : Block} → Core c → c .slot ≡ emptySlot → c .tec < busOffAt → (m : ℕ) → m ≤ 3 → (m ≡ sleep → Sleeping (c .tec) (c .rec) (c .trs) (c .trr))
     → (t : Bool) → Core (withWaiting (withGif (withMode c m) (gifWith c t 6)) noMode)
 taken k empty on m h down t =

@@ -42,7 +42,7 @@ Sized (Mode m) = Unit
 Sized (Options v) = Unit
 Sized Reset = Unit
 
--- The image x and the answer r of an event that was accepted, up to the mode that is taken at the end of the step.
+-- The image x and the answer r of an event that was accepted, before a waiting mode is entered.
 pub record Acted (s : List ℕ) (e : Event) (x : List ℕ) (r : ℕ) : Type 0 where
   pub image : x ≡ putBlock (mailboxesAfter s e) (risen (blockOf s) (acted s e))
   pub answered : r ≡ packed 0 (named s e) (countOf (goes s e))

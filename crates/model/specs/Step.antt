@@ -89,7 +89,7 @@ delivered b rtr (Nowhere c) = b
 abbrev pub acted : List ℕ → Event → Block
 acted s e = delivered (own s e) (remote e) (goes s e)
 
--- Sending, errors, modes: then GIF bits 2, 1 and 0 by the block before and now, and at the end a waiting mode.
+-- Sending, errors, modes: then the flags of bus off, passive and warning, where they begin to hold, and at the end a waiting mode.
 unfoldable pub blockAfter : List ℕ → Event → Block
 blockAfter s e = settled (risen (blockOf s) (acted s e))
 

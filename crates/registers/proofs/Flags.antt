@@ -219,7 +219,7 @@ module _ (b : Block) (m : ℕ) where
   unfolding ticked
   asleep-ticked h = rw h
 
--- an overflow of the time stamp counter, and a GIF write that clears it
+-- TSO: a tick that overflows, and a GIF write that clears it
 module _ (b : Block) where
   pub ticked-tso : ticked b .tso ≡ cond (overflows b) 1 (b .tso)
   unfolding ticked

@@ -119,7 +119,7 @@ withOptions b v = withWord b 26 v
 abbrev pub withTso : Block → ℕ → Block
 withTso b v = withWord b 27 v
 
--- The image, word 22: the four modes; word 23: no mode waits; word 24: no mailbox is in the slot.
+-- The image, word 22: the four modes; word 23: no mode waits; word 24: the slot is empty.
 abbrev pub normal : ℕ
 normal = 0
 

@@ -25,8 +25,8 @@ listened b =
     (gifWith b (wakened b) 6)
 
 -- Receiving: a frame stored in the mailbox that the flag word x names. Where one was pending, it is lost: RML goes up, and GIF
--- bit 5 where `lost` says so. RMP goes up, RFP becomes the frame's RTR, a remote frame raises GIF bit 7, and MBRIF goes up
--- under MBIM.
+-- bit 5 where `lost` says so. RMP goes up. RFP says whether the new frame is a remote one, for which GIF bit 7 goes up too. MBRIF
+-- goes up under MBIM.
 abbrev pub flagged : Block → ℕ → Bool → Bool → Block
 flagged b x lost rtr =
     withGif
@@ -40,6 +40,6 @@ flagged b x lost rtr =
 unfoldable pub stored : Block → ℕ → Bool → Block
 stored b n rtr = flagged b (mask n) (bit (b .rmp) n) rtr
 
--- Receiving: a remote frame at transmit mailbox n with RFH 1 asks for a sending.
+-- Receiving: mailbox n replies by itself: a remote frame asks it to send.
 abbrev pub replied : Block → ℕ → Block
 replied b n = withTrs b (bitOr (b .trs) (mask n))

@@ -17,7 +17,7 @@ atMost k x = cond (ltb k x) k x
 abbrev pub onBus : Block → Bool
 onBus b = eqb (b .mode) normal && ltb (b .tec) busOffAt
 
--- Sending, errors, modes: a tick adds one to TSC; past 65,535 it is 0 again, and TSO and GIF bit 3 go up. Asleep it does nothing.
+-- Sending, errors, modes: TSC counts ticks; past 65,535 it is 0 again, and TSO and GIF bit 3 go up. Asleep it stands still.
 abbrev pub overflows : Block → Bool
 overflows b = not (asleep b) && eqb (b .tsc) 65535
 
@@ -31,7 +31,7 @@ ticked b =
 unfoldable pub worsened : Block → ℕ → Block
 worsened b v = withRec b (cond (onBus b) (atMost 255 (b .rec + v)) (b .rec))
 
--- Sending, errors, modes: eleven recessive bits count in bus off only; the 128th ends it.
+-- Sending, errors, modes: in bus off, runs of eleven recessive bits are counted, and the 128th ends it.
 abbrev pub recovers : Block → Bool
 recovers b = busOff b && eqb (b .recovery) 127
 
@@ -44,8 +44,8 @@ recessive b =
 abbrev pub optioned : Block → ℕ → Block
 optioned b v = withOptions b v
 
--- Sending, errors, modes: a mode that is asked for waits, in the place of an earlier one; asking for the present mode only
--- cancels. Whether it is taken at once or later is the end of the step's matter.
+-- Sending, errors, modes: a mode that is asked for waits, in the place of an earlier one; to ask for the mode one is in leaves none
+-- waiting. Whether it is taken at once or later is the end of the step's matter.
 unfoldable pub asked : Block → ℕ → Block
 asked b m = withWaiting b (cond (eqb m (b .mode)) noMode m)
 
@@ -58,7 +58,7 @@ risen before b =
     withGif b
     (bitOr (bitOr (bitOr (b .gif) (flag (rises (busOff before) (busOff b)) 2)) (flag (rises (passive before) (passive b)) 1)) (flag (rises (warning before) (warning b)) 0))
 
--- Sending, errors, modes: a waiting mode is taken once the slot is empty and TEC below 256.
+-- Sending, errors, modes: a waiting mode is taken once nothing is in the slot and the unit is not in bus off.
 abbrev pub ready : Block → Bool
 ready b = not (eqb (b .waiting) noMode) && (vacant b && ltb (b .tec) busOffAt)
 

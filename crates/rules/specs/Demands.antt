@@ -12,9 +12,9 @@ use Rattle.rules.specs.Receiving.{First}
 use Rattle.rules.specs.Listing.{Trace, ascii}
 use Rattle.rules.specs.Calls.{FreshCall, StepCall, ListingCall}
 
--- Demand 1. Whatever the bytes of image and event are, a step answers. Where a refusal is the first that applies, the answer is its number,
--- mailbox 32 and count 0, and every byte of the image is as it came. Where none applies, the event is not refused. A file that is no trace
--- gets the one line with 8.
+-- Demand 1. Whatever the bytes of image and event are, a step answers. Where a refusal is the first that applies, the answer is its number
+-- with mailbox 32 and count 0; the image keeps its bytes. Where none applies, the event is not refused. A file that is no trace gets the
+-- one line with 8.
 pub record Demand1 : Type 0 where
   pub answered : (s e : List ℕ) → Bytes s → Bytes e → (x : List ℕ) × (a : ℕ) × StepCall s e x a
   pub refused : (s e x : List ℕ) (a : ℕ) → StepCall s e x a → (r : ℕ) → FirstRefusal s e r → (x ≡ s) × (a ≡ r + 256 * 32 + 65536 * 0)

@@ -74,7 +74,7 @@ pub record ReceiveError (more : ℕ) (was now : Words) : Type 0 where
   pub gif : Gif nothing was now
   pub rest : Only (REC ∷ GIF ∷ []) was now
 
--- Eleven recessive bits count in bus off alone; the 128th ends it.
+-- In bus off, and nowhere else, runs of eleven recessive bits are counted; the 128th ends it.
 pub record Recessive (was now : Words) : Type 0 where
   pub elsewhere : busOff was ≡ false → Only [] was now
   pub counts : busOff was ≡ true → was RECOVERY < 127 → (now RECOVERY ≡ was RECOVERY + 1) × Only (RECOVERY ∷ []) was now

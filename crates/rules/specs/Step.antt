@@ -12,7 +12,7 @@ use Rattle.rules.specs.Receiving.{Frame}
 use Rattle.rules.specs.Sending.{Start, Sent, Unsent, ReceiveError, Recessive, Tick, Mode, Ending}
 use Rattle.rules.specs.Fresh.{FreshWords}
 
--- The events: an accepted one answers mailbox 32 and count 0 where nothing else is said. Here no mailbox byte changes either.
+-- The events: an accepted one answers mailbox 32, count 0 where nothing else is said. Here no mailbox byte changes either.
 abbrev pub Quiet : List ℕ → Outcome → Type 0
 Quiet s o = Answers 32 0 o × BoxesStayBut 32 s (o .image)
 
@@ -45,7 +45,7 @@ pub record Accepted (s e : List ℕ) (o : Outcome) : Type 0 where
   pub refusal : o .refusal ≡ 0
   pub size : (length (o .image) ≡ 640) × ((i : ℕ) → byte (o .image) i < 256)
 
--- The refusals: each answers its number, mailbox 32 and count 0, and the image is as it came.
+-- The refusals: each answers its number with mailbox 32 and count 0; the image is as it came.
 abbrev pub Refused : List ℕ → ℕ → Outcome → Type 0
 Refused s r o = (o .image ≡ s) × (o .refusal ≡ r) × Answers 32 0 o
 

@@ -133,12 +133,13 @@ pub record Put (o : List ℕ) (at : ℕ) (text exit : List ℕ) (answer : ℕ) :
   pub bytes : exit ≡ written o at text
   pub behind : answer ≡ at + length text
 
--- Room for the longest listing: the header, 3,000 lines of 13 bytes, and the line that ends them.
+-- Room for any listing: the header, 3,000 lines of at most 13 bytes, and the line that ends them. None needs all of it, since lines
+-- with small numbers are shorter.
 abbrev pub longest : ℕ
 longest = 39033
 
 -- The promise of the listing: it stands at the front of the lent bytes, the others stay, and the answer is how many it has.
--- Fewer bytes than the longest listing needs all stay as they are, and the answer is 0.
+-- Fewer bytes than that room all stay as they are, and the answer is 0.
 pub record Listed (f o exit : List ℕ) (answer : ℕ) : Type 0 where
   pub bytes : exit ≡ cond (ltb (length o) longest) o (listing f ++ drop (length (listing f)) o)
   pub answered : answer ≡ cond (ltb (length o) longest) 0 (length (listing f))
