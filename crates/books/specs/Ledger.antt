@@ -15,8 +15,9 @@ pub data Happening : Type 0 where
   -- the unit falls asleep; it is reset
   sleep reset : Happening
 
--- The books of one mailbox: how it stands. Is a frame held: was one stored, and no release or reset came after it? Was one
--- lost: was it overwritten, and neither came after that? Does a request wait: was one raised that has not ended? Is it in the slot? Was it cancelled there?
+-- The books of one mailbox: how it stands. Is a frame held: was one stored, and no release or reset came after it? Was one lost:
+-- was it overwritten, and neither came after that? Does a request wait: was one raised that has not ended? Is it in the slot? Was it
+-- cancelled there?
 pub record Now : Type 0 where
   pub held : Bool
   pub lost : Bool
