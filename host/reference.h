@@ -14,7 +14,7 @@ uint64_t reference_fresh(uint8_t *image, size_t image_len);
 uint64_t reference_step(uint8_t *image, size_t image_len, const uint8_t *event, size_t event_len);
 uint64_t reference_read(const uint8_t *image, size_t image_len, uint32_t number);
 
-#define LISTING_ROOM 39034 /* the longest listing (D80), and the 0 that C puts behind it */
+#define LISTING_ROOM 39034 /* room for any listing (D80), and the 0 that C puts behind it */
 
 /* What the trace program prints for such a file, into a buffer of LISTING_ROOM. Answers its length. */
 size_t reference_list(char *listing, const uint8_t *file, size_t file_len);

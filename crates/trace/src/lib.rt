@@ -13,7 +13,7 @@ use text::put_ending;
 use text::put_line;
 use text::put_text;
 
-// The bytes of the longest listing: a buffer of so many always has room.
+// So many bytes have room for any listing.
 pub const LONGEST: usize = 39033;
 
 fn wide(x: u8) -> usize
