@@ -1,7 +1,8 @@
 /*
  * Keeps the books of every mailbox over long random runs of frostsorrel_step, with the code that the report has, and
  * compares them with the image after every step: what is held, lost and waiting with RMP, RML and TRS, and how each
- * frame and request ended with what the books never look at, TA, AA, GIF and the mode that the step leaves.
+ * frame and request ended with what the books never look at, TA, AA, GIF and the mode that the step leaves. A frame that
+ * came to no mailbox has left all of them as they were, and one that was not heard has left everything, or woken the model.
  */
 #include "check.h"
 #include "command/books.h"
@@ -10,7 +11,7 @@
 
 static const char *const entry_names[ENTRIES] = {
     "stored", "released", "overwritten", "dropped by reset", "raised", "sent", "aborted",
-    "dropped by sleep", "dropped by reset",
+    "dropped by sleep", "dropped by reset", "not heard", "not taken",
 };
 
 /* ---- what must hold after every step */
@@ -33,8 +34,19 @@ static void check_books(const struct books *b, const uint8_t *image, unsigned lo
     check(n == FROSTSORREL_MAILBOXES, "run %lu, step %d: the books of mailbox %d do not balance", run, step, n);
 }
 
+/* Is nothing else of the image new than that the model is awake? */
+static int only_woke(const uint8_t *before, const uint8_t *image)
+{
+    uint8_t woken[BYTES];
+
+    memcpy(woken, before, BYTES);
+    put(woken, MODE, FROSTSORREL_NORMAL);
+    put(woken, GIF, word_of(before, GIF) | FROSTSORREL_WUIF);
+    return word_of(before, MODE) == SLEEP && memcmp(woken, image, BYTES) == 0;
+}
+
 /* Does the image after the step say so too? Of what begins RMP and TRS do. */
-static int fits(const struct made *m, const uint8_t *event, const uint8_t *image)
+static int fits(const struct made *m, const uint8_t *before, const uint8_t *event, const uint8_t *image)
 {
     switch (m->entry) {
     case RELEASED: return event[0] == FROSTSORREL_WRITE_REGISTER && event[1] == FROSTSORREL_RMP;
@@ -44,6 +56,8 @@ static int fits(const struct made *m, const uint8_t *event, const uint8_t *image
     case SLEPT: return word_of(image, MODE) == SLEEP;
     case FRAME_RESET:
     case REQUEST_RESET: return event[0] == FROSTSORREL_RESET;
+    case NOT_HEARD: return memcmp(before, image, BYTES) == 0 || only_woke(before, image);
+    case NOT_TAKEN: return word_of(before, MODE) == FROSTSORREL_NORMAL && memcmp(before, image, 16 * FROSTSORREL_MAILBOXES) == 0;
     default: return 1;
     }
 }
@@ -65,10 +79,21 @@ static void check_entries(const struct books *b, const uint8_t *before, const ui
     uint32_t sent = word_of(image, TA) & ~word_of(before, TA), aborted = word_of(image, AA) & ~word_of(before, AA);
 
     for (int i = 0; i < b->mades; i++)
-        check(fits(&b->made[i], event, image), "run %lu, step %d: mailbox %d was not %s", run, step,
+        check(fits(&b->made[i], before, event, image), "run %lu, step %d: mailbox %d was not %s", run, step,
               b->made[i].mailbox, entry_names[b->made[i].entry]);
     check(!(sent & ~booked_now(b, SENDINGS)), "run %lu, step %d: TA rises, and nothing is booked as sent", run, step);
     check(!(aborted & ~booked_now(b, ABORTED)), "run %lu, step %d: AA rises, and nothing is booked as aborted", run, step);
+}
+
+/* An accepted frame has an entry, but where the mailbox that is to reply has a request already. */
+static void check_frame(const struct books *b, const uint8_t *before, const uint8_t *event, uint64_t answer,
+                        unsigned long run, int step)
+{
+    uint32_t n = frostsorrel_answer_mailbox(answer);
+    int waits = n < FROSTSORREL_MAILBOXES && word_of(before, TRS) & BIT(n);
+
+    if (event[0] == FROSTSORREL_FRAME && frostsorrel_answer_refusal(answer) == FROSTSORREL_ACCEPTED)
+        check(waits || b->mades > 0, "run %lu, step %d: a frame that nothing is booked of", run, step);
 }
 
 static void run(unsigned long number, int steps, struct books *b)
@@ -86,16 +111,24 @@ static void run(unsigned long number, int steps, struct books *b)
         book(b, before, event, answer);
         check_books(b, image, number, step);
         check_entries(b, before, event, image, number, step);
+        check_frame(b, before, event, answer, number, step);
     }
 }
 
+/* Can a mailbox have this entry? The last kinds are those of no mailbox; 31 never sends. */
+static int can_have(int n, int entry)
+{
+    if (n == FROSTSORREL_NO_MAILBOX)
+        return entry >= NOT_HEARD;
+    return entry < (n == 31 ? RAISED : NOT_HEARD);
+}
+
 /* The runs are worth something only if they had every kind of entry at every mailbox that can. */
-static void check_not_empty(unsigned long sums[ENTRIES][FROSTSORREL_MAILBOXES])
+static void check_not_empty(unsigned long sums[ENTRIES][FROSTSORREL_MAILBOXES + 1])
 {
     for (int e = 0; e < ENTRIES; e++)
-        for (int n = 0; n < FROSTSORREL_MAILBOXES; n++)
-            check((n == 31 && e >= RAISED) == (sums[e][n] == 0), "mailbox %d: %lu %s %s", n, sums[e][n],
-                  e < RAISED ? "frames" : "requests", entry_names[e]);
+        for (int n = 0; n <= FROSTSORREL_NO_MAILBOX; n++)
+            check(can_have(n, e) == (sums[e][n] > 0), "mailbox %d: %lu %s", n, sums[e][n], entry_names[e]);
 }
 
 #define RUNS 20
@@ -104,13 +137,13 @@ static void check_not_empty(unsigned long sums[ENTRIES][FROSTSORREL_MAILBOXES])
 int main(void)
 {
     static struct books b;
-    static unsigned long sums[ENTRIES][FROSTSORREL_MAILBOXES];
+    static unsigned long sums[ENTRIES][FROSTSORREL_MAILBOXES + 1];
 
     for (unsigned long number = 1; number <= RUNS; number++) {
         memset(&b, 0, sizeof b); /* all begin empty */
         run(number, STEPS, &b);
         for (int e = 0; e < ENTRIES; e++)
-            for (int n = 0; n < FROSTSORREL_MAILBOXES; n++)
+            for (int n = 0; n <= FROSTSORREL_NO_MAILBOX; n++)
                 sums[e][n] += b.count[e][n];
     }
     check_not_empty(sums);

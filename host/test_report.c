@@ -2,7 +2,8 @@
  * The report on drawn traces and on any bytes: test_report TRACE..
  *
  * Each trace is told as it is, and with some of its bytes changed; random bytes are told as well. The books must balance
- * and agree with the image, every loss and every refusal must be told, and each refusal must have a reason that fits it.
+ * and agree with the image, every frame that came to nobody and every refusal must be told, each refusal must have a reason
+ * that fits it, and so must each frame that no mailbox took.
  * host/test_sanitized runs it under the compiler's sanitizers, on the machine's own processor.
  */
 #include <stdlib.h>
@@ -49,17 +50,99 @@ static int check_refusals(const struct run *r, const char *name)
     return refused;
 }
 
+/* The mailbox that was compared last: the enabled ones are, from 0 on; 32 if there was none. */
+static uint32_t compared_last(const uint8_t *image, uint64_t count, uint64_t *enabled)
+{
+    uint32_t last = FROSTSORREL_NO_MAILBOX;
+
+    *enabled = 0;
+    for (uint32_t n = 0; n < FROSTSORREL_MAILBOXES; n++)
+        if (frostsorrel_register_word(image, FROSTSORREL_MC) >> n & 1 && ++*enabled == count)
+            last = n;
+    return last;
+}
+
+/*
+ * That the search ended at a mailbox is said of a remote frame wherever fewer were compared than are enabled, and of the one
+ * that was compared last, which transmits and has RFH 0. Of a data frame it is never said.
+ */
+static void check_search(const uint8_t *before, const uint8_t *event, uint64_t answer, const char *words, const char *name)
+{
+    static const char ended[] = "NOT TAKEN: it matches mailbox ";
+    uint64_t enabled, count = frostsorrel_answer_count(answer);
+    uint32_t last = compared_last(before, count, &enabled);
+    int said = strncmp(words, ended, strlen(ended)) == 0, remote = frostsorrel_event_value(event) >> 30 & 1;
+
+    check(said || !remote || count == enabled, "%s: %lu of %lu were compared: %s", name, (unsigned long)count,
+          (unsigned long)enabled, words);
+    if (!said)
+        return;
+    check(remote && strtoul(words + strlen(ended), 0, 10) == last, "%s: %lu was compared last: %s", name,
+          (unsigned long)last, words);
+    check(!(frostsorrel_register_word(before, FROSTSORREL_MD) >> last & 1) &&
+              !(frostsorrel_mailbox_word(before, last, 0) & FROSTSORREL_RFH), "%s: it would reply: %s", name, words);
+}
+
+/* A frame that is said to wake the unit does. */
+static void check_waking(const uint8_t *after, const char *words, const char *name)
+{
+    int awake = frostsorrel_register_word(after, FROSTSORREL_WORD_MODE) == FROSTSORREL_NORMAL &&
+                frostsorrel_register_word(after, FROSTSORREL_TEC) < FROSTSORREL_BUS_OFF_TEC;
+
+    check(awake == (strstr(words, "wakes") != 0), "%s: %s", name, words);
+}
+
+static void check_missed(const struct run *r, const char *name)
+{
+    for (int k = 1; k <= r->steps; k++)
+        for (int i = r->step[k].first_made; i < r->step[k + 1].first_made; i++) {
+            struct text t = {0};
+
+            say_made(&t, &r->made[i], r->image[k - 1], r->step[k].event, r->step[k].answer);
+            if (r->made[i].entry == NOT_TAKEN)
+                check_search(r->image[k - 1], r->step[k].event, r->step[k].answer, t.at, name);
+            if (r->made[i].entry == NOT_HEARD)
+                check_waking(r->image[k], t.at, name);
+            text_free(&t);
+        }
+}
+
+/*
+ * The report tells of such an entry at its step, and under Losses, where the line begins with two blanks. The picture has a
+ * mark for each, and one more in its legend.
+ */
+static void check_losses(const struct run *r, const struct text *text, const struct text *page, enum entry entry,
+                         const char *word, const char *mark, const char *name)
+{
+    struct text under = {0}, said = {0}, shown = {0};
+    int count = 0;
+
+    for (int n = 0; n <= FROSTSORREL_NO_MAILBOX; n++)
+        count += (int)r->books.count[entry][n];
+    text_add(&under, "\n  %s: ", word);
+    text_add(&said, " %s: ", word);
+    text_add(&shown, ">%s: ", word);
+    check(lines_with(text, under.at) == count, "%s: %d are not under Losses:%s", name, count, under.at);
+    check(lines_with(text, said.at) == 2 * count, "%s: the text does not tell %d twice:%s", name, count, said.at);
+    check(lines_with(page, shown.at) == 2 * count, "%s: the page does not tell %d twice:%s", name, count, said.at);
+    check(!count || lines_with(page, mark) == count + 1, "%s: the picture does not have %d:%s", name, count, mark);
+    text_free(&under);
+    text_free(&said);
+    text_free(&shown);
+}
+
 static void check_told(const struct run *r, const char *name)
 {
-    int refused = check_refusals(r, name), lost = 0;
+    int refused = check_refusals(r, name);
     struct text text = {0}, page = {0};
 
-    for (int n = 0; n < FROSTSORREL_MAILBOXES; n++)
-        lost += (int)r->books.count[OVERWRITTEN][n];
+    check_missed(r, name);
     write_text(&text, r, name);
     write_page(&page, r, name);
-    check(lines_with(&text, " LOST: ") == 2 * lost, "%s: the text does not tell %d losses twice", name, lost);
-    check(lines_with(&page, ">LOST: ") == 2 * lost, "%s: the page does not tell %d losses twice", name, lost);
+    check_losses(r, &text, &page, OVERWRITTEN, "LOST", "\"mark lost\"", name);
+    check_losses(r, &text, &page, FRAME_RESET, "DROPPED", "\"mark drop\"", name);
+    check_losses(r, &text, &page, NOT_HEARD, "NOT HEARD", "\"mark unheard\"", name);
+    check_losses(r, &text, &page, NOT_TAKEN, "NOT TAKEN", "\"mark untaken\"", name);
     check(lines_with(&text, ": REFUSED ") == refused, "%s: the text does not sum up %d refusals", name, refused);
     check(lines_with(&page, ": REFUSED ") == refused, "%s: the page does not sum up %d refusals", name, refused);
     text_free(&text);

@@ -76,12 +76,21 @@ static void book_register_write(struct books *b, const uint8_t *before, uint32_t
     }
 }
 
-/* The answer names the mailbox: one that receives has stored it, one that sends is to reply. */
-static void book_frame(struct books *b, const uint8_t *before, uint32_t n)
+/* The bus is heard in normal mode alone, and not in bus off. */
+static int hears(const uint8_t *image)
 {
+    return word_of(image, FROSTSORREL_WORD_MODE) == FROSTSORREL_NORMAL &&
+           word_of(image, FROSTSORREL_TEC) < FROSTSORREL_BUS_OFF_TEC;
+}
+
+/* The answer names the mailbox: one that receives has stored it, one that sends is to reply. What was compared was heard. */
+static void book_frame(struct books *b, const uint8_t *before, uint64_t answer)
+{
+    uint32_t n = frostsorrel_answer_mailbox(answer);
+
     if (n == FROSTSORREL_NO_MAILBOX)
-        return;
-    if (word_of(before, FROSTSORREL_MD) & BIT(n))
+        enter(b, hears(before) || frostsorrel_answer_count(answer) ? NOT_TAKEN : NOT_HEARD, (int)n, 0);
+    else if (word_of(before, FROSTSORREL_MD) & BIT(n))
         stored(b, (int)n);
     else
         raised(b, (int)n);
@@ -135,7 +144,7 @@ void book(struct books *b, const uint8_t *before, const uint8_t *event, uint64_t
         book_register_write(b, before, event[1], frostsorrel_event_value(event));
         break;
     case FROSTSORREL_FRAME:
-        book_frame(b, before, frostsorrel_answer_mailbox(answer));
+        book_frame(b, before, answer);
         break;
     case FROSTSORREL_OUTCOME:
         book_outcome(b, before, event[1]);

@@ -4,6 +4,9 @@
  * What a step did is worked out from the event, the answer and the image before it: its MD, slot, TRR, mode,
  * waiting mode, TEC and recovery count. RMP, TRS and RML are never looked at for that: the books say what they
  * should be.
+ *
+ * Beside them stand the frames that came to no mailbox, so that every accepted frame has an entry or a request that
+ * waits already.
  */
 #ifndef BOOKS_H
 #define BOOKS_H
@@ -15,6 +18,7 @@
 enum entry {
     STORED, RELEASED, OVERWRITTEN, FRAME_RESET, /* frames: stored, and the three ways they end */
     RAISED, SENDINGS, ABORTED, SLEPT, REQUEST_RESET, /* requests: raised, and the four ways they end */
+    NOT_HEARD, NOT_TAKEN, /* frames that came to no mailbox: theirs is FROSTSORREL_NO_MAILBOX */
     ENTRIES
 };
 
@@ -31,7 +35,7 @@ struct books {
     int steps;
     uint32_t held, lost, waiting; /* a bit for each mailbox */
     int stored_in[FROSTSORREL_MAILBOXES], raised_in[FROSTSORREL_MAILBOXES]; /* steps, for held and waiting */
-    unsigned long count[ENTRIES][FROSTSORREL_MAILBOXES];
+    unsigned long count[ENTRIES][FROSTSORREL_MAILBOXES + 1]; /* the last for FROSTSORREL_NO_MAILBOX */
     struct made made[MOST_MADE];
     int mades;
 };

@@ -15,6 +15,7 @@ static const char head[] =
     "p{margin:.25rem 0}svg{display:block;width:100%;height:auto;margin:.5rem 0 1rem}\n"
     ".sums{font-size:1.05rem}\n"
     ".loss{color:#b02700;font-weight:bold}.loss::before{content:'\\25C6\\00A0'}\n"
+    ".missed{color:#7d2a63}.missed::before{content:'\\25CB\\00A0'}\n"
     ".refusal{color:#7a4600}.refusal::before{content:'\\00D7\\00A0'}\n"
     ".nothing,.changed,.answer{color:#566270}\n"
     "table{border-collapse:collapse;width:100%;margin:.5rem 0 1rem}\n"
@@ -29,6 +30,7 @@ static const char head[] =
     "{box-shadow:inset 4px 0 #b57a1a}\n"
     ".detail{display:flex;justify-content:space-between;gap:1rem}\n"
     ".numbers{font-family:'DejaVu Sans Mono',Consolas,monospace;font-size:.78rem;color:#66717d;white-space:nowrap}\n"
+    "@media(max-width:720px){.books{table-layout:auto}.books th,.books td{padding:.25rem .2rem;font-size:.72rem}}\n"
     "footer{margin-top:2rem;font-size:.85rem;color:#566270}\n"
     "@page{size:landscape;margin:12mm}\n"
     "@media print{html{font-size:12.5px}body{margin:0;max-width:none;padding:0}svg,tr,p{break-inside:avoid}"
@@ -63,7 +65,7 @@ static void add_element(struct text *t, const char *element, const char *class, 
 
 static const char *class_of(enum kind kind)
 {
-    static const char *const classes[] = {"loss", "refusal", "", "changed", "nothing"};
+    static const char *const classes[] = {"loss", "missed", "refusal", "", "changed", "nothing"};
 
     return classes[kind];
 }
@@ -119,16 +121,18 @@ static void html_step_done(struct pen *p)
 
 static void write_head(struct text *out, const struct run *r, const char *name)
 {
-    struct text sums = {0};
+    struct text sums = {0}, class = {0};
 
     say_sums(&sums, r);
     text_add(out, "%s", head);
     add_element(out, "title", "", name);
     text_add(out, "\n</head>\n<body>\n");
     add_element(out, "h1", "", name);
-    add_element(out, "p", has_losses(r) ? "sums loss" : "sums", sums.at);
+    text_add(&class, "sums %s", class_of(worst_of(r)));
+    add_element(out, "p", class.at, sums.at);
     text_add(out, "\n");
     text_free(&sums);
+    text_free(&class);
 }
 
 /* What an officer signs for comes first, the single steps last. */

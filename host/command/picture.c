@@ -1,7 +1,7 @@
 /*
  * The picture of a run, as SVG. A long run is cut into bands of steps, one below the other, each an SVG of its own, so
- * that paper can break between them. In a band stand the steps, the mode, the refused events, a lane for each mailbox
- * with anything to show there, and the two error counters. Every mark has a shape of its own beside its colour.
+ * that paper can break between them. In a band stand the steps, the mode, the refused events, the frames that came to no
+ * mailbox, a lane for each mailbox with anything to show there, and the two error counters. Every mark has a shape of its own beside its colour.
  */
 #include <string.h>
 
@@ -17,6 +17,7 @@ enum {
     WIDEST_STEP = 84,
     STEPS_HEIGHT = 26, /* the numbers of the steps */
     STRIP_HEIGHT = 24, /* the mode */
+    LETTER = 7,        /* of the mode's name */
     LANE_HEIGHT = 34,
     COUNTER_HEIGHT = 84,
     GAP = 12,
@@ -26,7 +27,8 @@ enum {
 /* What a lane shows. All but the first three of these are entries of the books. */
 enum mark {
     START, BACK, REFUSED,
-    MARK_STORED, MARK_LOST, MARK_RELEASED, MARK_RAISED, MARK_SENT, MARK_ABORTED, DROPPED,
+    MARK_STORED, MARK_LOST, MARK_RELEASED, MARK_DROPPED, MARK_RAISED, MARK_SENT, MARK_ABORTED, MARK_ENDED,
+    MARK_NOT_HEARD, MARK_NOT_TAKEN,
     MARKS
 };
 
@@ -40,16 +42,19 @@ static const struct {
     {"store", "stored", "M-1 0A1 1 0 1 0 1 0A1 1 0 1 0-1 0z"},
     {"lost", "stored over a held frame: LOST", "M-1.5 0L0-1.5L1.5 0L0 1.5z"},
     {"release", "released", "M-1 0A1 1 0 1 0 1 0A1 1 0 1 0-1 0z"},
+    {"drop", "held frame DROPPED by a reset", "M-1.2-1.2H1.2L0 1.2z"},
     {"request", "request raised", "M-1 1H1L0-1z"},
     {"sent", "sent", "M-1-1H1V1H-1z"},
     {"abort", "aborted", "M-1-1H1V1H-1zL1 1M-1 1L1-1"},
-    {"drop", "dropped by sleep or reset", "M-1-1H1L0 1z"},
+    {"end", "request dropped", "M-1-1H1L0 1z"},
+    {"unheard", "frame NOT HEARD", "M-1 0A1 1 0 1 0 1 0A1 1 0 1 0-1 0zM-.7-.7L.7.7"},
+    {"untaken", "frame NOT TAKEN", "M0-1V1M-1 0H1"},
 };
 
 static enum mark mark_of(enum entry entry)
 {
-    static const enum mark of[ENTRIES] = {MARK_STORED, MARK_RELEASED, MARK_LOST,    DROPPED, MARK_RAISED,
-                                          MARK_SENT,   MARK_ABORTED,  DROPPED, DROPPED};
+    static const enum mark of[ENTRIES] = {MARK_STORED, MARK_RELEASED, MARK_LOST,  MARK_DROPPED, MARK_RAISED,   MARK_SENT,
+                                          MARK_ABORTED, MARK_ENDED,   MARK_ENDED, MARK_NOT_HEARD, MARK_NOT_TAKEN};
 
     return of[entry];
 }
@@ -99,10 +104,17 @@ static void draw_mark(struct band *b, enum mark mark, int step, double y)
         draw_words(b->out, "alarm", x_of(b, step), y - 10, "LOST");
 }
 
+/* The element is left open: a title may follow. */
+static void open_box(struct text *out, const char *class, double x, double y, double width, double height)
+{
+    text_add(out, "<rect class=\"%s\" x=\"%.1f\" y=\"%.1f\" width=\"%.1f\" height=\"%.1f\"", class, x, y, width,
+             height);
+}
+
 static void draw_box(struct text *out, const char *class, double x, double y, double width, double height)
 {
-    text_add(out, "<rect class=\"%s\" x=\"%.1f\" y=\"%.1f\" width=\"%.1f\" height=\"%.1f\"/>\n", class, x, y, width,
-             height);
+    open_box(out, class, x, y, width, height);
+    text_add(out, "/>\n");
 }
 
 static void draw_line(struct text *out, const char *class, double x1, double y1, double x2, double y2)
@@ -110,7 +122,7 @@ static void draw_line(struct text *out, const char *class, double x1, double y1,
     text_add(out, "<path class=\"%s\" d=\"M%.1f %.1fL%.1f %.1f\"/>\n", class, x1, y1, x2, y2);
 }
 
-/* ---- the steps, the mode, the refused events */
+/* ---- the steps, the mode, the refused events, the frames that came to no mailbox */
 
 /* How many steps from one number to the next, so that the numbers have room. */
 static int numbers_apart(double step)
@@ -146,18 +158,28 @@ static void draw_modes(struct band *b)
 {
     draw_words(b->out, "name", NAMES, b->bottom + 16, "mode");
     for (int k = b->first, last; k <= b->last; k = last + 1) {
-        const char *mode = state_of(b->run->image[k]), initial[] = {mode[0], 0};
+        const char *mode = state_of(b->run->image[k]);
         double x = LEFT + (k - b->first) * b->step, width;
 
         for (last = k; last < b->last && strcmp(state_of(b->run->image[last + 1]), mode) == 0;)
             last++;
         width = (last - k + 1) * b->step;
-        draw_box(b->out, mode[0] == 'n' ? "mode normal" : mode[0] == 'b' ? "mode off" : "mode other", x, b->bottom + 3,
+        open_box(b->out, mode[0] == 'n' ? "mode normal" : mode[0] == 'b' ? "mode off" : "mode other", x, b->bottom + 3,
                  width, 18);
-        if (width > 14)
-            draw_words(b->out, "inside", x + 4, b->bottom + 16, width > 86 ? mode : initial);
+        text_add(b->out, "><title>steps %d to %d: %s</title></rect>\n", k, last, mode);
+        if (width > 8 + LETTER * (double)strlen(mode))
+            draw_words(b->out, "inside", x + 4, b->bottom + 16, mode);
     }
     b->bottom += STRIP_HEIGHT;
+}
+
+/* Entries in this band that stand under no mailbox. */
+static int has_unstored(const struct band *b)
+{
+    for (int i = b->run->step[b->first].first_made; i < b->run->step[b->last + 1].first_made; i++)
+        if (b->run->made[i].mailbox == FROSTSORREL_NO_MAILBOX)
+            return 1;
+    return 0;
 }
 
 static int has_refusals(const struct band *b)
@@ -233,6 +255,13 @@ static void draw_entries(struct band *b, int n, double y)
     }
 }
 
+static void draw_unstored(struct band *b)
+{
+    draw_words(b->out, "name", NAMES, b->bottom + 16, "not stored");
+    draw_entries(b, FROSTSORREL_NO_MAILBOX, b->bottom + STRIP_HEIGHT / 2);
+    b->bottom += STRIP_HEIGHT;
+}
+
 static void draw_lane(struct band *b, int n)
 {
     double y = b->bottom + LANE_HEIGHT / 2;
@@ -241,8 +270,9 @@ static void draw_lane(struct band *b, int n)
     text_add(&name, "mailbox %d", n);
     draw_words(b->out, "name", NAMES, y, name.at);
     text_free(&name);
-    say_identifier(&name, frostsorrel_mailbox_word(b->run->image[b->last], (uint32_t)n, 0));
-    draw_words(b->out, "small", NAMES, y + 11, name.at);
+    say_only_identifier(&name, "", b->run, n);
+    if (name.length)
+        draw_words(b->out, "small", NAMES, y + 11, name.at);
     text_free(&name);
     draw_line(b->out, "lane", LEFT, y, end_of(b), y);
     draw_bars(b, n, FROSTSORREL_RMP, "held", 14);
@@ -308,7 +338,9 @@ static const char style[] =
     ".lost{fill:#d12f00;stroke:#fff;stroke-width:1}"
     ".request{fill:#fff;stroke:#00785a;stroke-width:1.6}.start,.sent{fill:#00785a}"
     ".back{fill:#fff;stroke:#00785a;stroke-width:1.6}.abort{fill:#fff;stroke:#8a4f00;stroke-width:1.6}"
-    ".drop{fill:#fff;stroke:#566270;stroke-width:1.6}.refused{fill:none;stroke:#8a4f00;stroke-width:2.2}"
+    ".drop{fill:#d12f00}.end{fill:#fff;stroke:#566270;stroke-width:1.6}"
+    ".unheard,.untaken{fill:none;stroke:#7d2a63;stroke-width:1.8}"
+    ".refused{fill:none;stroke:#8a4f00;stroke-width:2.2}"
     ".level{stroke:#8a95a1;stroke-width:1;stroke-dasharray:2 4;fill:none}"
     ".tec{stroke:#1c2733;stroke-width:2;fill:none}.rec{stroke:#cc5a9b;stroke-width:2;fill:none;stroke-dasharray:7 4}"
     "</style>\n";
@@ -338,9 +370,10 @@ static const char *name_of_key(int i)
 
 static void draw_legend(struct band *b)
 {
-    static const int order[KEYS] = {MARK_STORED, MARK_RELEASED, MARK_LOST, MARKS,     DROPPED,
-                                    MARK_RAISED, START,         MARK_SENT, MARKS + 1, BACK,
-                                    MARK_ABORTED, REFUSED,      MARKS + 2, MARKS + 3};
+    static const int order[KEYS] = {MARK_STORED,  MARK_RELEASED, MARK_LOST,      MARKS,          MARK_DROPPED,
+                                    MARK_RAISED,  START,         BACK,           MARKS + 1,      MARK_ENDED,
+                                    MARK_ABORTED, MARK_SENT,     MARK_NOT_HEARD, MARK_NOT_TAKEN, REFUSED,
+                                    MARKS + 2,    MARKS + 3};
     static const int columns[KEYS_IN_ROW] = {LEFT, LEFT + 160, LEFT + 300, LEFT + 540, LEFT + 700};
 
     for (int i = 0; i < KEYS; i++) {
@@ -359,9 +392,7 @@ static uint32_t lanes_of(const struct run *r, int first, int last)
     uint32_t lanes = frostsorrel_register_word(r->image[first - 1], FROSTSORREL_RMP) |
                      frostsorrel_register_word(r->image[first - 1], FROSTSORREL_TRS);
 
-    for (int i = r->step[first].first_made; i < r->step[last + 1].first_made; i++)
-        lanes |= BIT(r->made[i].mailbox);
-    return lanes;
+    return lanes | booked_in(r, first, last);
 }
 
 static int count_of(uint32_t bits)
@@ -387,8 +418,9 @@ static int has_no_errors(const struct run *r, int first, int last)
 static void draw_band(struct text *out, const struct run *r, int first, int last, int is_first)
 {
     struct band b = {r, out, first, last, lanes_of(r, first, last), (double)(RIGHT - LEFT) / (last - first + 1), 0, 0};
-    int refused = has_refusals(&b), counters = is_first || b.lanes || !has_no_errors(r, first, last);
-    double lanes_end = STEPS_HEIGHT + STRIP_HEIGHT * (1 + refused) + LANE_HEIGHT * count_of(b.lanes);
+    int refused = has_refusals(&b), unstored = has_unstored(&b);
+    int counters = is_first || b.lanes || !has_no_errors(r, first, last);
+    double lanes_end = STEPS_HEIGHT + STRIP_HEIGHT * (1 + refused + unstored) + LANE_HEIGHT * count_of(b.lanes);
     double height = lanes_end + (counters ? GAP + COUNTER_HEIGHT + GAP : 0) + (is_first ? GAP + LEGEND_HEIGHT : 0);
 
     if (b.step > WIDEST_STEP)
@@ -403,6 +435,8 @@ static void draw_band(struct text *out, const struct run *r, int first, int last
     draw_modes(&b);
     if (refused)
         draw_refusals(&b);
+    if (unstored)
+        draw_unstored(&b);
     for (int n = 0; n < FROSTSORREL_MAILBOXES; n++)
         if (b.lanes & BIT(n))
             draw_lane(&b, n);

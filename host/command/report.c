@@ -7,9 +7,17 @@ static const char help[] =
     "frostsorrel report [--html] TRACE\n"
     "\n"
     "Runs a trace and tells every step in words: the event, its refusal with the reason, the mailbox that the answer\n"
-    "names, what is booked, and every word of the image that changed. At the end stand the books of each mailbox in\n"
-    "use, every loss, every refusal, and how the unit stands. A line that begins with LOST is a frame that was\n"
-    "overwritten before anybody released it. Equal steps in a row that only move a counter on are told as one.\n"
+    "names, what is booked, and every word of the image that changed. Equal steps in a row that only move a counter on\n"
+    "are told as one. Behind the steps stand the books of each mailbox in use, every loss, every refusal, and how the\n"
+    "unit stands. Each frame that the firmware did not get has a line of its own under Losses:\n"
+    "\n"
+    "  LOST:       it was overwritten before anybody released it\n"
+    "  DROPPED:    a reset dropped it before anybody released it\n"
+    "  NOT HEARD:  it came while the unit was not in normal mode, or in bus off\n"
+    "  NOT TAKEN:  no mailbox took it: usual for a frame that is meant for others\n"
+    "\n"
+    "There, and nowhere else, these words stand behind two blanks, so a script counts the frames that were overwritten\n"
+    "with frostsorrel report TRACE | grep -c '^  LOST:'. A frame that was refused stands under Refusals.\n"
     "\n"
     "--html prints a page for a browser, all in one file, with a picture of the run. - is standard input.\n"
     "\n"
@@ -20,7 +28,7 @@ static const char help[] =
 
 static const char *colour_of(enum kind kind)
 {
-    static const char *const colours[] = {"\033[1;31m", "\033[33m", "", "\033[2m", "\033[2m"};
+    static const char *const colours[] = {"\033[1;31m", "\033[35m", "\033[33m", "", "\033[2m", "\033[2m"};
 
     return colours[kind];
 }
@@ -98,7 +106,7 @@ void write_text(struct text *out, const struct run *r, const char *name)
 
     say_sums(&sums, r);
     text_add(&p.out, "%s: ", name);
-    put_coloured(&p, has_losses(r) ? colour_of(LOSS) : "", sums.at);
+    put_coloured(&p, colour_of(worst_of(r)), sums.at);
     text_add(&p.out, "\n");
     text_free(&sums);
     text_heading(&p, "Step by step");

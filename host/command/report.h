@@ -6,7 +6,7 @@
 #include "run.h"
 
 /* The kinds of what is told of a step. */
-enum kind { LOSS, REFUSAL, BOOKED, CHANGED, NOTHING };
+enum kind { LOSS, MISSED, REFUSAL, BOOKED, CHANGED, NOTHING };
 
 enum { MOST_CELLS = 7 };
 
@@ -28,11 +28,17 @@ void tell_losses(struct pen *p, const struct run *r);
 void tell_refusals(struct pen *p, const struct run *r);
 void tell_state(struct pen *p, const struct run *r);
 
-/* "19 steps, 1 frame lost, 1 event refused" */
+/* "19 steps, 1 frame lost, 2 not heard, 1 event refused" */
 void say_sums(struct text *t, const struct run *r);
 
-/* Was a frame overwritten? */
-int has_losses(const struct run *r);
+/* The worst that befell a frame: LOSS where one was overwritten or dropped, MISSED where one came to no mailbox, or BOOKED. */
+enum kind worst_of(const struct run *r);
+
+/* Adds the identifier of a mailbox behind these words, where it had no other since it was first in use. */
+void say_only_identifier(struct text *t, const char *before, const struct run *r, int n);
+
+/* The mailboxes that have an entry in these steps. */
+uint32_t booked_in(const struct run *r, int first, int last);
 
 /* The mailboxes in use: enabled at some time, or with an entry in the books. */
 uint32_t in_use(const struct run *r);

@@ -19,14 +19,38 @@ static int sum_of(const struct run *r, enum entry entry)
 {
     int sum = 0;
 
-    for (int n = 0; n < FROSTSORREL_MAILBOXES; n++)
+    for (int n = 0; n <= FROSTSORREL_NO_MAILBOX; n++)
         sum += (int)r->books.count[entry][n];
     return sum;
 }
 
-int has_losses(const struct run *r)
+/* The ways in which a frame does not come to the firmware, the worst first. */
+static const struct way {
+    enum entry entry;
+    enum kind kind;
+    const char *sum;
+} ways[] = {
+    {OVERWRITTEN, LOSS, "lost"},
+    {FRAME_RESET, LOSS, "dropped unread by a reset"},
+    {NOT_HEARD, MISSED, "not heard"},
+    {NOT_TAKEN, MISSED, "taken by no mailbox"},
+};
+enum { WAYS = sizeof ways / sizeof ways[0] };
+
+static enum kind kind_of(enum entry entry)
 {
-    return sum_of(r, OVERWRITTEN) > 0;
+    for (int i = 0; i < WAYS; i++)
+        if (ways[i].entry == entry)
+            return ways[i].kind;
+    return BOOKED;
+}
+
+enum kind worst_of(const struct run *r)
+{
+    for (int i = 0; i < WAYS; i++)
+        if (sum_of(r, ways[i].entry))
+            return ways[i].kind;
+    return BOOKED;
 }
 
 static void say_count(struct text *t, int count, const char *thing, const char *what)
@@ -38,19 +62,60 @@ static void say_count(struct text *t, int count, const char *thing, const char *
 void say_sums(struct text *t, const struct run *r)
 {
     say_count(t, r->steps, "step", ", ");
-    say_count(t, sum_of(r, OVERWRITTEN), "frame", " lost, ");
+    if (sum_of(r, OVERWRITTEN))
+        say_count(t, sum_of(r, OVERWRITTEN), "frame", " lost, ");
+    else
+        text_add(t, "no frame overwritten, "); /* which is all that can be said: others may be missing */
+    for (int i = 1; i < WAYS; i++)
+        if (sum_of(r, ways[i].entry))
+            text_add(t, "%d %s, ", sum_of(r, ways[i].entry), ways[i].sum);
     say_count(t, refusals_of(r), "event", " refused");
+}
+
+uint32_t booked_in(const struct run *r, int first, int last)
+{
+    uint32_t booked = 0;
+
+    for (int i = r->step[first].first_made; i < r->step[last + 1].first_made; i++)
+        if (r->made[i].mailbox != FROSTSORREL_NO_MAILBOX)
+            booked |= BIT(r->made[i].mailbox);
+    return booked;
+}
+
+/* The mailboxes that are enabled after this step, or have an entry in it. */
+static uint32_t used_in(const struct run *r, int step)
+{
+    return frostsorrel_register_word(r->image[step], FROSTSORREL_MC) | booked_in(r, step, step);
 }
 
 uint32_t in_use(const struct run *r)
 {
     uint32_t used = 0;
 
-    for (int k = 0; k <= r->steps; k++)
-        used |= frostsorrel_register_word(r->image[k], FROSTSORREL_MC);
-    for (int i = 0; i < r->step[r->steps + 1].first_made; i++)
-        used |= BIT(r->made[i].mailbox);
+    for (int k = 1; k <= r->steps; k++)
+        used |= used_in(r, k);
     return used;
+}
+
+/* The identifier that the mailbox has after this step, as word 0 has it. */
+static uint32_t identifier_in(const struct run *r, int step, int n)
+{
+    return frostsorrel_mailbox_word(r->image[step], (uint32_t)n, 0) & (FROSTSORREL_IDE | FROSTSORREL_IDENTIFIER_BITS);
+}
+
+void say_only_identifier(struct text *t, const char *before, const struct run *r, int n)
+{
+    uint32_t last = identifier_in(r, r->steps, n);
+    int step = 1;
+
+    while (step < r->steps && !(used_in(r, step) & BIT(n)))
+        step++;
+    while (step < r->steps && identifier_in(r, step, n) == last)
+        step++;
+    if (identifier_in(r, step, n) != last)
+        return;
+    text_add(t, "%s", before);
+    say_identifier(t, last);
 }
 
 /* ---- the steps */
@@ -111,8 +176,8 @@ static void tell_entries(struct pen *p, const struct run *r, int step)
     struct text words = {0}, none = {0};
 
     for (int i = r->step[step].first_made; i < r->step[step + 1].first_made; i++) {
-        say_made(&words, &r->made[i], r->image[step - 1]);
-        put_detail(p, r->made[i].entry == OVERWRITTEN ? LOSS : BOOKED, &words, &none);
+        say_made(&words, &r->made[i], r->image[step - 1], r->step[step].event, r->step[step].answer);
+        put_detail(p, kind_of(r->made[i].entry), &words, &none);
     }
 }
 
@@ -177,7 +242,7 @@ struct account {
 static const struct account frames = {
     {"Frames", "stored", "released", "overwritten", "dropped", "held", ""}, STORED, RAISED, "the frame of step %d"};
 static const struct account requests = {
-    {"Requests", "raised", "sent", "aborted", "dropped", "waiting", ""}, RAISED, ENTRIES, "the request of step %d"};
+    {"Requests", "raised", "sent", "aborted", "dropped", "waiting", ""}, RAISED, NOT_HEARD, "the request of step %d"};
 
 static void tell_account_of(struct pen *p, const struct run *r, const struct account *a, int n)
 {
@@ -187,8 +252,8 @@ static void tell_account_of(struct pen *p, const struct run *r, const struct acc
     struct text cells[MOST_CELLS] = {{0}};
     const char *row[MOST_CELLS];
 
-    text_add(&cells[0], "mailbox %d, ", n);
-    say_identifier(&cells[0], frostsorrel_mailbox_word(r->image[r->steps], (uint32_t)n, 0));
+    text_add(&cells[0], "mailbox %d", n);
+    say_only_identifier(&cells[0], ", ", r, n);
     for (int i = 0; i < 3; i++)
         text_add(&cells[1 + i], "%lu", b->count[(int)a->began + i][n]);
     for (int i = (int)a->began + 3; i < (int)a->behind; i++)
@@ -243,40 +308,50 @@ static void tell_lines(struct pen *p, enum kind kind, const char *lines)
 void tell_mailboxes(struct pen *p, const struct run *r)
 {
     uint32_t used = in_use(r), receive = frostsorrel_register_word(r->image[r->steps], FROSTSORREL_MD);
+    uint32_t stored = mailboxes_with(r, STORED), raised = mailboxes_with(r, RAISED), idle = used & ~stored & ~raised;
 
     p->heading(p, "The books of the mailboxes in use");
     if (!used)
         p->line(p, NOTHING, "No mailbox was used.");
-    tell_account(p, r, &frames, (used & receive) | mailboxes_with(r, STORED));
-    tell_account(p, r, &requests, (used & ~receive) | mailboxes_with(r, RAISED));
+    tell_account(p, r, &frames, stored | (idle & receive));
+    tell_account(p, r, &requests, raised | (idle & ~receive));
     if (r->fault.length)
         tell_lines(p, LOSS, r->fault.at);
-    else
+    else if (used)
         p->line(p, BOOKED, "They balance, and after every step RMP, RML and TRS say the same as the books.");
 }
 
 /* ---- losses and refusals */
 
+/* What a mailbox held came in the step in which it was stored, and any other frame in this one. */
 static void tell_loss(struct pen *p, const struct run *r, int step, const struct made *m)
 {
+    const struct step *s = &r->step[step];
+    int was_stored = m->mailbox != FROSTSORREL_NO_MAILBOX;
     struct text t = {0};
 
-    say_made(&t, m, r->image[step - 1]);
-    text_add(&t, " in step %d: ", step);
-    say_event(&t, r->step[m->since].event);
-    p->line(p, LOSS, t.at);
+    say_made(&t, m, r->image[step - 1], s->event, s->answer);
+    text_add(&t, was_stored ? " in step %d: " : ", step %d: ", step);
+    say_event(&t, r->step[was_stored ? m->since : step].event);
+    p->line(p, kind_of(m->entry), t.at);
     text_free(&t);
+}
+
+static void tell_losses_of(struct pen *p, const struct run *r, enum entry entry)
+{
+    for (int k = 1; k <= r->steps; k++)
+        for (int i = r->step[k].first_made; i < r->step[k + 1].first_made; i++)
+            if (r->made[i].entry == entry)
+                tell_loss(p, r, k, &r->made[i]);
 }
 
 void tell_losses(struct pen *p, const struct run *r)
 {
     p->heading(p, "Losses");
-    if (!has_losses(r))
-        p->line(p, NOTHING, "No frame was lost.");
-    for (int k = 1; k <= r->steps; k++)
-        for (int i = r->step[k].first_made; i < r->step[k + 1].first_made; i++)
-            if (r->made[i].entry == OVERWRITTEN)
-                tell_loss(p, r, k, &r->made[i]);
+    if (!sum_of(r, OVERWRITTEN))
+        p->line(p, NOTHING, "No frame was overwritten.");
+    for (int i = 0; i < WAYS; i++)
+        tell_losses_of(p, r, ways[i].entry);
 }
 
 void tell_refusals(struct pen *p, const struct run *r)
@@ -315,6 +390,17 @@ static void tell_flags(struct pen *p, const uint8_t *image, uint32_t number, con
     put_line(p, &t);
 }
 
+/* Flags stay up in sleep, and the firmware does not see them. */
+static void tell_sleep(struct pen *p, const uint8_t *image)
+{
+    uint64_t gsr = frostsorrel_read(image, FROSTSORREL_IMAGE_BYTES, FROSTSORREL_GSR);
+    struct text t = {0};
+
+    text_add(&t, "asleep the firmware reads GSR as 0x%08lX and every other register as 0, whatever stands below",
+             wide(frostsorrel_read_value(gsr)));
+    put_line(p, &t);
+}
+
 void tell_state(struct pen *p, const struct run *r)
 {
     const uint8_t *image = r->image[r->steps];
@@ -328,6 +414,8 @@ void tell_state(struct pen *p, const struct run *r)
     if (waiting != FROSTSORREL_NO_MODE)
         text_add(&t, ", and %s waits", frostsorrel_mode_name(waiting));
     put_line(p, &t);
+    if (frostsorrel_register_word(image, FROSTSORREL_WORD_MODE) == FROSTSORREL_SLEEP)
+        tell_sleep(p, image);
     text_add(&t, "slot:");
     say_slot(&t, slot);
     put_line(p, &t);
@@ -337,7 +425,7 @@ void tell_state(struct pen *p, const struct run *r)
     text_add(&t, "TSC %lu", wide(frostsorrel_register_word(image, FROSTSORREL_TSC)));
     put_line(p, &t);
     tell_flags(p, image, FROSTSORREL_RMP, "a frame is held");
-    tell_flags(p, image, FROSTSORREL_RML, "a frame was lost since the last release");
+    tell_flags(p, image, FROSTSORREL_RML, "a frame was lost since the last release or reset");
     text_add(&t, interrupts ? "GIF:" : "GIF: no bit");
     say_interrupts(&t, "", interrupts);
     put_line(p, &t);

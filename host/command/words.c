@@ -209,31 +209,85 @@ void say_event(struct text *t, const uint8_t *event)
 
 /* ---- answers and entries */
 
-/* An answer is told as it is. Where it names no mailbox the state may say why: nothing is heard or sent but in normal. */
-void say_answer(struct text *t, const uint8_t *before, const uint8_t *event, uint64_t answer)
+/* Why an event that was accepted did nothing: the state that it came in. Frames have their reason with their entry. */
+static void say_idle(struct text *t, const char *state, uint8_t operation)
 {
-    unsigned long n = frostsorrel_answer_mailbox(answer), count = (unsigned long)frostsorrel_answer_count(answer);
-    int is_frame = event[0] == FROSTSORREL_FRAME, is_normal = strcmp(state_of(before), "normal") == 0;
+    int is_normal = strcmp(state, "normal") == 0;
 
-    if (n != FROSTSORREL_NO_MAILBOX)
-        text_add(t, is_frame ? "mailbox %lu, %lu compared" : "mailbox %lu", n, count);
-    else if (is_frame && (is_normal || count))
-        text_add(t, "no mailbox takes it, %lu compared", count);
-    else if (is_frame)
-        text_add(t, "not heard in %s", state_of(before));
-    else if (event[0] == FROSTSORREL_START && is_normal)
+    if (operation == FROSTSORREL_START && is_normal)
         text_add(t, "nothing to send: no enabled mailbox has a request that CDR does not hold back");
-    else if (event[0] == FROSTSORREL_START)
-        text_add(t, "nothing is sent in %s", state_of(before));
+    else if (operation == FROSTSORREL_START)
+        text_add(t, "nothing is sent in %s", state);
+    else if (operation == FROSTSORREL_RECEIVE_ERROR && !is_normal)
+        text_add(t, "not heard in %s", state);
+    else if (operation == FROSTSORREL_ELEVEN_RECESSIVE && strcmp(state, "bus off") != 0)
+        text_add(t, "counted in bus off only");
+    else if (operation == FROSTSORREL_TICK && strcmp(state, "sleep") == 0)
+        text_add(t, "the time stamp counter stands still in sleep");
 }
 
-void say_made(struct text *t, const struct made *m, const uint8_t *before)
+/* An answer is told as it is. Where it names no mailbox the state may say why. */
+void say_answer(struct text *t, const uint8_t *before, const uint8_t *event, uint64_t answer)
 {
-    static const char *const words[ENTRIES] = {
+    uint32_t n = frostsorrel_answer_mailbox(answer);
+    int is_named = n != FROSTSORREL_NO_MAILBOX, is_frame = event[0] == FROSTSORREL_FRAME;
+
+    if (is_named)
+        text_add(t, "mailbox %lu", wide(n));
+    else if (is_frame)
+        text_add(t, "no mailbox");
+    else
+        say_idle(t, state_of(before), event[0]);
+    if (is_frame)
+        text_add(t, ", %lu compared", (unsigned long)frostsorrel_answer_count(answer));
+}
+
+/*
+ * The transmit mailbox at which the search for a mailbox ended, 32 if none did. The library itself says: it would name that
+ * one if all of them replied (RFH), and nothing else of the answer would be another.
+ */
+static uint32_t search_ended_at(const uint8_t *before, const uint8_t *event, uint64_t answer)
+{
+    uint8_t replying[FROSTSORREL_IMAGE_BYTES];
+    uint64_t other;
+
+    memcpy(replying, before, sizeof replying);
+    for (int n = 0; n < FROSTSORREL_MAILBOXES; n++)
+        replying[16 * n + 3] |= FROSTSORREL_RFH >> 24;
+    other = frostsorrel_step(replying, sizeof replying, event, FROSTSORREL_EVENT_BYTES);
+    return frostsorrel_answer_count(other) == frostsorrel_answer_count(answer) ? frostsorrel_answer_mailbox(other)
+                                                                               : FROSTSORREL_NO_MAILBOX;
+}
+
+static void say_not_taken(struct text *t, const uint8_t *before, const uint8_t *event, uint64_t answer)
+{
+    uint32_t n = search_ended_at(before, event, answer);
+
+    text_add(t, "NOT TAKEN: ");
+    if (n != FROSTSORREL_NO_MAILBOX)
+        text_add(t, "it matches mailbox %lu, which transmits and does not reply (RFH 0): the search ends there", wide(n));
+    else if (frostsorrel_event_value(event) & FROSTSORREL_FRAME_RTR)
+        text_add(t, "no enabled mailbox matches it");
+    else
+        text_add(t, "no enabled mailbox that receives matches it");
+}
+
+static void say_not_heard(struct text *t, const uint8_t *before)
+{
+    int sleeps = frostsorrel_register_word(before, FROSTSORREL_WORD_MODE) == FROSTSORREL_SLEEP;
+
+    text_add(t, "NOT HEARD: the unit is in %s", state_of(before));
+    if (sleeps && frostsorrel_register_word(before, FROSTSORREL_WORD_OPTIONS) & FROSTSORREL_WUBA)
+        text_add(t, ", and the frame only wakes it");
+}
+
+void say_made(struct text *t, const struct made *m, const uint8_t *before, const uint8_t *event, uint64_t answer)
+{
+    static const char *const words[NOT_HEARD] = {
         "stored: mailbox %d",
         "released: mailbox %d, the frame of step %d",
         "LOST: mailbox %d, the frame of step %d was overwritten unread",
-        "dropped by the reset: mailbox %d, the frame of step %d",
+        "DROPPED: mailbox %d, the frame of step %d was dropped unread by the reset",
         "request raised: mailbox %d",
         "sent: mailbox %d, the request of step %d",
         "aborted: mailbox %d, the request of step %d",
@@ -241,7 +295,12 @@ void say_made(struct text *t, const struct made *m, const uint8_t *before)
         "dropped by the reset: mailbox %d, the request of step %d",
     };
 
-    text_add(t, words[m->entry], m->mailbox, m->since);
+    if (m->entry == NOT_TAKEN)
+        say_not_taken(t, before, event, answer);
+    else if (m->entry == NOT_HEARD)
+        say_not_heard(t, before);
+    else
+        text_add(t, words[m->entry], m->mailbox, m->since);
     if (m->entry == RELEASED && frostsorrel_register_word(before, FROSTSORREL_RML) & BIT(m->mailbox))
         text_add(t, "; its lost flag is cleared with it");
 }

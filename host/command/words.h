@@ -14,8 +14,8 @@ void say_answer(struct text *t, const uint8_t *before, const uint8_t *event, uin
 /* Why this step was refused: "mailbox 5 is enabled (MC), so its word 0 is fixed". */
 void say_reason(struct text *t, const uint8_t *before, const uint8_t *event, uint32_t refusal);
 
-/* An entry in the books: "released: mailbox 5, the frame of step 14". */
-void say_made(struct text *t, const struct made *m, const uint8_t *before);
+/* An entry in the books, and why a frame came to no mailbox: "released: mailbox 5, the frame of step 14". */
+void say_made(struct text *t, const struct made *m, const uint8_t *before, const uint8_t *event, uint64_t answer);
 
 /* The words of an image, counted from its first byte: four of each mailbox, then the register words. */
 enum { WORDS = FROSTSORREL_IMAGE_BYTES / 4, FIRST_REGISTER = 4 * FROSTSORREL_MAILBOXES };
