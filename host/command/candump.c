@@ -195,7 +195,7 @@ static const char *take_end(struct log *log, struct rest *rest)
     if (p.length)
         return "behind the frame stands R, T or nothing";
     if (++log->frames > FROSTSORREL_SECTION_EVENTS)
-        return "a section takes 1,000 events";
+        return "a section takes 1,000 events: cut the log here, and make a trace of each part";
     if (log->frames == 1)
         log->bus = log->interface;
     if (log->interface.length != log->bus.length ||
@@ -260,7 +260,7 @@ void read_candump(struct lines *lines, struct text *scenario)
     struct log log = {.lines = lines};
 
     text_add(scenario, "events:\n");
-    while (next_line(lines))
+    while (log.frames <= FROSTSORREL_SECTION_EVENTS && next_line(lines)) /* that there are more is said once */
         read_line(&log, scenario);
 }
 

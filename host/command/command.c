@@ -49,7 +49,7 @@ static int failed_at(const char *name)
 int asks_help(int argc, char **argv)
 {
     for (int i = 1; i < argc; i++)
-        if (strcmp(argv[i], "--help") == 0)
+        if (strcmp(argv[i], "--help") == 0 || strcmp(argv[i], "-h") == 0)
             return 1;
     return 0;
 }
@@ -57,7 +57,7 @@ int asks_help(int argc, char **argv)
 const char *only_file(int argc, char **argv)
 {
     if (argc < 2)
-        misused(argv[0], "which file?");
+        misused(argv[0], "no file is named");
     else if (argv[1][0] == '-' && argv[1][1])
         misused(argv[0], "%s takes no %s", argv[0], argv[1]);
     else if (argc > 2)
@@ -134,6 +134,11 @@ int read_whole(const char *path, size_t limit, struct bytes *into)
     if (file != stdin)
         fclose(file);
     return status;
+}
+
+int is_text(const struct bytes *file)
+{
+    return file->length > 0 && !memchr(file->at, 0, file->length);
 }
 
 /* ---- writing */

@@ -30,7 +30,7 @@ PRINTF_LIKE(1, 2) void complain(const char *format, ...);
 /* The same for words that this subcommand does not take, with a hint to its --help. Answers COMMAND_FAILED. */
 PRINTF_LIKE(2, 3) int misused(const char *subcommand, const char *format, ...);
 
-/* Is --help among the words? */
+/* Is --help, or -h, among the words? */
 int asks_help(int argc, char **argv);
 
 /* For a subcommand whose one word is a file: its path, or 0 after a message. */
@@ -55,6 +55,9 @@ struct bytes {
  * then there is nothing to free.
  */
 int read_whole(const char *path, size_t limit, struct bytes *into);
+
+/* Is this text? Then no byte of it is 0; every trace has such bytes. */
+int is_text(const struct bytes *file);
 
 /* What a file is called in messages. */
 const char *name_of_input(const char *path);

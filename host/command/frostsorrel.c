@@ -4,6 +4,7 @@
 #include "command.h"
 
 #include <signal.h>
+#include <stdio.h>
 #include <string.h>
 
 #include "frostsorrel.h"
@@ -42,9 +43,11 @@ int main(int argc, char **argv)
 {
     signal(SIGPIPE, SIG_IGN); /* a reader that has gone, and a file that may not grow, are errors like a full disk */
     signal(SIGXFSZ, SIG_IGN); /* and not a sudden end */
-    if (argc < 2)
-        return misused("", "which subcommand?");
-    if (strcmp(argv[1], "--help") == 0)
+    if (argc < 2) {
+        fputs(help, stderr);
+        return COMMAND_FAILED;
+    }
+    if (strcmp(argv[1], "--help") == 0 || strcmp(argv[1], "-h") == 0 || strcmp(argv[1], "help") == 0)
         return alone(argc, argv, help);
     if (strcmp(argv[1], "--version") == 0)
         return alone(argc, argv, "frostsorrel " FROSTSORREL_VERSION "\n");

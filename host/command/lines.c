@@ -79,9 +79,11 @@ static int read_text(const char *path, struct bytes *into)
 {
     if (read_whole(path, LONGEST_TEXT, into) != COMMAND_DONE)
         return COMMAND_FAILED;
-    if (into->length <= LONGEST_TEXT)
+    if (into->length == 0 || (into->length <= LONGEST_TEXT && is_text(into)))
         return COMMAND_DONE;
-    complain("%s: longer than 4 MiB, so it is none of the texts that this reads", name_of_input(path));
+    complain(into->length > LONGEST_TEXT ? "%s: longer than 4 MiB, so it is none of the texts that this reads"
+                                         : "%s: this is no text; a trace is for frostsorrel report, list or text",
+             name_of_input(path));
     free(into->at);
     return COMMAND_FAILED;
 }

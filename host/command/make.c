@@ -28,8 +28,9 @@ static const char help[] =
     "  frame 0x718 : 03 7F 11 22\n"
     "  release 5\n"
     "\n"
-    "Sections come in this order; one that is left out is empty. Lines for mailboxes and registers may stand in\n"
-    "events: too. ID is 0 to 0x7FF, or `ext` and 0 to 0x1FFFFFFF; N is a mailbox; data are hexadecimal bytes:\n"
+    "Sections come in this order; one that is left out is empty, and each takes at most 1,000 events. Lines for\n"
+    "mailboxes and registers may stand in events: too. ID is an identifier, one number that is written with 0x: 0x0 to\n"
+    "0x7FF, or `ext` and 0x0 to 0x1FFFFFFF. N is a mailbox. Data are bytes of two hexadecimal digits, without 0x:\n"
     "\n"
     "  mailbox N receives ID              word 0 = ID\n"
     "  mailbox N sends ID dlc 2 : 11 22   word 0 = ID, word 1 = DLC, words 2 and 3 as far as there are data;\n"
@@ -83,7 +84,7 @@ static int understand(int argc, char **argv, const char **scenario, const char *
             *scenario = argv[i];
         }
     }
-    return *scenario ? COMMAND_DONE : misused("make", "which scenario?");
+    return *scenario ? COMMAND_DONE : misused("make", "no scenario is named");
 }
 
 /* NAME.trace for NAME.txt, and for NAME; - for -. */

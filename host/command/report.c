@@ -161,6 +161,8 @@ int command_report(int argc, char **argv)
     status = text_show(&out, 0);
     if (status == COMMAND_DONE && (refused || r.fault.length))
         status = COMMAND_DIFFERS;
+    if (refused && html)
+        complain_of_trace(path, &r.trace); /* a page goes into a file, where nobody looks yet */
     text_free(&out);
     free_run(&r);
     return status;

@@ -30,7 +30,8 @@ struct reader {
     /* What `enable` needs to know: bits of mailboxes that receive, whose direction is known, that are enabled. */
     uint32_t receiving, known, enabled;
 
-    int section; /* from 0; -1 before the first heading */
+    int section;   /* from 0; -1 before the first heading */
+    unsigned full; /* a bit for each section that takes no more events */
     struct text sections[SECTIONS];
 };
 
@@ -137,10 +138,26 @@ static void needs(struct reader *r, const char *word)
         unexpected(r);
 }
 
+/* Does the word that stands next begin with 0x and go on? */
+static int has_0x(const struct reader *r)
+{
+    return r->length > 2 && r->word[0] == '0' && lower(r->word[1]) == 'x';
+}
+
+/* How many hexadecimal digits it begins with. */
+static size_t digits_of(const struct reader *r)
+{
+    size_t count = 0;
+
+    while (count < r->length && digit(r->word[count]) >= 0)
+        count++;
+    return count;
+}
+
 /* The word that stands next as a number of at most 32 bits: decimal without a 0 in front, or 0x and digits. */
 static int is_number(const struct reader *r, uint32_t *value)
 {
-    int base = r->length > 2 && r->word[0] == '0' && lower(r->word[1]) == 'x' ? 16 : 10;
+    int base = has_0x(r) ? 16 : 10;
     uint64_t sum = 0;
 
     if (r->length == 0 || (base == 10 && r->length > 1 && r->word[0] == '0'))
@@ -218,33 +235,53 @@ static uint8_t take_mailbox(struct reader *r)
     return take_small(r, "a mailbox, 0 to 31", FROSTSORREL_MAILBOXES - 1);
 }
 
+/* The word that stands next is wrong for a reason of its own. */
+static void wrong_word(struct reader *r, const char *why, const char *advice)
+{
+    struct text found = {0};
+
+    if (r->broken)
+        return;
+    r->broken = 1;
+    add_quoted(&found, r->word, r->length);
+    fault(r->lines, "found \"%s\"; %s%s", found.at, why, advice ? advice : found.at);
+    text_free(&found);
+}
+
+/* Data are hexadecimal without 0x, so digits without it would be read as either: they are an error. */
+static uint32_t take_hexadecimal(struct reader *r, const char *what, uint32_t most)
+{
+    r->expectations = 0; /* what may stand here says of "ext" as well */
+    if (r->length > 0 && digits_of(r) == r->length)
+        wrong_word(r, "an identifier is hexadecimal and has 0x before it: 0x", 0);
+    return take_number(r, what, 0, most);
+}
+
 /* In its place, with IDE where it is extended. */
 static uint32_t take_identifier(struct reader *r)
 {
     if (takes(r, "ext"))
-        return frostsorrel_extended(take_value(r, "an extended identifier, 0 to 0x1FFFFFFF", 0x1FFFFFFF));
+        return frostsorrel_extended(take_hexadecimal(r, "an extended identifier, 0x0 to 0x1FFFFFFF", 0x1FFFFFFF));
     return frostsorrel_standard(
-        take_value(r, "a standard identifier, 0 to 0x7FF (an extended one has \"ext\" before it)", 0x7FF));
+        take_hexadecimal(r, "a standard identifier, 0x0 to 0x7FF (an extended one has \"ext\" before it)", 0x7FF));
 }
 
 /* Bytes of two hexadecimal digits, apart or in a row. Answers how many there are. */
-static int take_bytes(struct reader *r, uint8_t *into, int most, const char *what)
+static int take_bytes(struct reader *r, uint8_t *into, int most, const char *what, const char *too_many)
 {
     int count = 0;
 
     while (!r->broken) {
-        size_t i = 0;
+        size_t digits = digits_of(r);
 
         expect(r, what, 0);
-        while (i < r->length && digit(r->word[i]) >= 0)
-            i++;
-        if (i < r->length || i % 2 || i == 0)
+        if (digits < r->length || digits % 2 || digits == 0)
             break;
-        if (count + (int)(i / 2) > most) {
-            unexpected(r);
+        if (count + (int)(digits / 2) > most) {
+            wrong_word(r, too_many, "");
             break;
         }
-        for (i = 0; i < r->length; i += 2)
+        for (size_t i = 0; i < digits; i += 2)
             into[count++] = (uint8_t)(16 * digit(r->word[i]) + digit(r->word[i + 1]));
         advance(r);
     }
@@ -253,7 +290,8 @@ static int take_bytes(struct reader *r, uint8_t *into, int most, const char *wha
 
 static int take_data(struct reader *r, uint8_t *data)
 {
-    return take_bytes(r, data, 8, "data bytes of two hexadecimal digits, eight at most");
+    return take_bytes(r, data, 8, "data bytes of two hexadecimal digits, eight at most",
+                      "there is a ninth data byte, and eight may stand here");
 }
 
 /* Their bits. At least one has to be there, and none twice. */
@@ -383,7 +421,7 @@ static uint8_t take_register(struct reader *r)
     if (number <= FROSTSORREL_GSR) {
         advance(r);
     } else {
-        expect(r, "a register, by its name (MC to REC, GSR) or number (0 to 21, 32)", 0);
+        expect(r, "a register, by its name or number, as `frostsorrel registers` lists them", 0);
         unexpected(r);
     }
     return (uint8_t)number;
@@ -484,7 +522,8 @@ static void read_raw(struct reader *r)
     static const char *const operations[SECTIONS] = {"1", "0 or 9", "any"};
     uint8_t *event = new_event(r);
 
-    if (take_bytes(r, event, FROSTSORREL_EVENT_BYTES, "16 bytes of two hexadecimal digits") < FROSTSORREL_EVENT_BYTES)
+    if (take_bytes(r, event, FROSTSORREL_EVENT_BYTES, "16 bytes of two hexadecimal digits",
+                   "there is a 17th byte, and an event has 16") < FROSTSORREL_EVENT_BYTES)
         unexpected(r);
     if (!r->broken && !belongs(r->section, event[0]))
         fault(r->lines, "found operation %d; in \"%s\" may stand operation %s", event[0],
@@ -550,8 +589,10 @@ static void add_events(struct reader *r, uint32_t times)
     size_t before = section->length / FROSTSORREL_EVENT_BYTES, added = times * (size_t)r->count;
 
     if (before + added > FROSTSORREL_SECTION_EVENTS) {
-        fault(r->lines, "%lu events and %lu more in \"%s\"; a section takes %d", (unsigned long)before,
-              (unsigned long)added, headings[r->section].whole, FROSTSORREL_SECTION_EVENTS);
+        if (!(r->full & 1u << r->section)) /* once is enough */
+            fault(r->lines, "%lu events and %lu more in \"%s\"; a section takes 1,000", (unsigned long)before,
+                  (unsigned long)added, headings[r->section].whole);
+        r->full |= 1u << r->section;
         return;
     }
     for (uint32_t turn = 0; turn < times; turn++)

@@ -177,8 +177,7 @@ int command_text(int argc, char **argv)
     if (!path || read_trace(path, &t) != COMMAND_DONE)
         return COMMAND_FAILED;
     if (t.fault.length) {
-        complain("%s: no trace: %s", name_of_input(path), t.fault.at);
-        status = COMMAND_DIFFERS;
+        status = complain_of_trace(path, &t);
     } else {
         write_scenario(&scenario, &t);
         status = text_show(&scenario, 0);

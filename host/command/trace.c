@@ -51,8 +51,9 @@ static size_t take_section(struct trace *t, int section, size_t at)
         text_add(&t->fault, "over-counted: section %d (%s) counts %d events at byte %lu; %d are allowed", section + 1,
                  holds[section], s->count, (unsigned long)at, FROSTSORREL_SECTION_EVENTS);
     else if (left - 2 < needed)
-        text_add(&t->fault, "too short: section %d (%s) counts %d events, which take %lu bytes; the file has %lu more",
-                 section + 1, holds[section], s->count, (unsigned long)needed, (unsigned long)(left - 2));
+        text_add(&t->fault, "too short: section %d (%s) counts %d %s %lu bytes; the file has %lu more", section + 1,
+                 holds[section], s->count, s->count == 1 ? "event, which takes" : "events, which take",
+                 (unsigned long)needed, (unsigned long)(left - 2));
     else
         find_misplaced(t, section);
     t->events += s->count;
@@ -69,6 +70,8 @@ void split_trace(struct trace *t)
         text_add(&t->fault, "too long: the third section ends at byte %lu, and more bytes follow", (unsigned long)at);
     if (!t->fault.length)
         return;
+    if (is_text(&t->file))
+        text_add(&t->fault, "; this is text, and frostsorrel make makes a trace of a scenario");
     memset(t->section, 0, sizeof t->section);
     t->events = 0;
 }
@@ -86,4 +89,10 @@ void free_trace(struct trace *t)
 {
     free(t->file.at);
     text_free(&t->fault);
+}
+
+int complain_of_trace(const char *path, const struct trace *t)
+{
+    complain("%s: no trace: %s", name_of_input(path), t->fault.at);
+    return COMMAND_DIFFERS;
 }

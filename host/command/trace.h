@@ -28,6 +28,9 @@ void split_trace(struct trace *t);
 
 void free_trace(struct trace *t);
 
+/* Says on standard error why this is no trace. Answers COMMAND_DIFFERS. */
+int complain_of_trace(const char *path, const struct trace *t);
+
 /* Which operations may stand in a section, by its number from 0. */
 int belongs(int section, uint8_t operation);
 
