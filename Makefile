@@ -13,7 +13,7 @@ export TRACE PREFIX DESTDIR
 
 help:
 	@echo 'make frostsorrel   proves the library and builds the command; ./frostsorrel --help says what it does'
-	@echo 'make run           prints the listing of a trace with the proved program, TRACE=$(TRACE)'
+	@echo 'make run           prints the listing of a trace with the proved program, TRACE=$(TRACE); fails if it is none'
 	@echo 'make registers     prints every register of a fresh model'
 	@echo 'make test          the gate: everything that must hold before a change counts'
 	@echo 'make host-test     its C tests alone'
