@@ -34,6 +34,13 @@ static void check_books(const struct books *b, const uint8_t *image, unsigned lo
     check(n == FROSTSORREL_MAILBOXES, "run %lu, step %d: the books of mailbox %d do not balance", run, step, n);
 }
 
+/* Could the model hear a frame, and has no mailbox changed? */
+static int only_heard(const uint8_t *before, const uint8_t *image)
+{
+    return word_of(before, MODE) == FROSTSORREL_NORMAL && word_of(before, TEC) < FROSTSORREL_BUS_OFF_TEC &&
+           memcmp(before, image, 16 * FROSTSORREL_MAILBOXES) == 0;
+}
+
 /* Is nothing else of the image new than that the model is awake? */
 static int only_woke(const uint8_t *before, const uint8_t *image)
 {
@@ -57,7 +64,7 @@ static int fits(const struct made *m, const uint8_t *before, const uint8_t *even
     case FRAME_RESET:
     case REQUEST_RESET: return event[0] == FROSTSORREL_RESET;
     case NOT_HEARD: return memcmp(before, image, BYTES) == 0 || only_woke(before, image);
-    case NOT_TAKEN: return word_of(before, MODE) == FROSTSORREL_NORMAL && memcmp(before, image, 16 * FROSTSORREL_MAILBOXES) == 0;
+    case NOT_TAKEN: return only_heard(before, image);
     default: return 1;
     }
 }

@@ -92,6 +92,23 @@ static void check_waking(const uint8_t *after, const char *words, const char *na
     check(awake == (strstr(words, "wakes") != 0), "%s: %s", name, words);
 }
 
+/* That an event did nothing is said only where it did; and of a start and a tick, wherever they did. */
+static void check_idle(const struct run *r, int step, const char *name)
+{
+    const struct step *s = &r->step[step];
+    int unchanged = memcmp(r->image[step - 1], r->image[step], FROSTSORREL_IMAGE_BYTES) == 0;
+    int always = s->event[0] == FROSTSORREL_START || s->event[0] == FROSTSORREL_TICK;
+    struct text t = {0};
+
+    if (refusal_of(r, step) != FROSTSORREL_ACCEPTED || s->event[0] == FROSTSORREL_FRAME ||
+        frostsorrel_answer_mailbox(s->answer) != FROSTSORREL_NO_MAILBOX)
+        return;
+    say_answer(&t, r->image[step - 1], s->event, s->answer);
+    check(unchanged || !t.length, "%s, step %d: %s", name, step, t.length ? t.at : "");
+    check(!unchanged || !always || t.length, "%s, step %d: nothing says why nothing changes", name, step);
+    text_free(&t);
+}
+
 static void check_missed(const struct run *r, const char *name)
 {
     for (int k = 1; k <= r->steps; k++)
@@ -136,6 +153,8 @@ static void check_told(const struct run *r, const char *name)
     int refused = check_refusals(r, name);
     struct text text = {0}, page = {0};
 
+    for (int k = 1; k <= r->steps; k++)
+        check_idle(r, k, name);
     check_missed(r, name);
     write_text(&text, r, name);
     write_page(&page, r, name);

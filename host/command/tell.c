@@ -28,9 +28,9 @@ static int sum_of(const struct run *r, enum entry entry)
 static const struct way {
     enum entry entry;
     enum kind kind;
-    const char *sum;
+    const char *sum; /* in the first line, which has other words for what was overwritten */
 } ways[] = {
-    {OVERWRITTEN, LOSS, "lost"},
+    {OVERWRITTEN, LOSS, 0},
     {FRAME_RESET, LOSS, "dropped unread by a reset"},
     {NOT_HEARD, MISSED, "not heard"},
     {NOT_TAKEN, MISSED, "taken by no mailbox"},
