@@ -2,8 +2,8 @@
  * The report on drawn traces and on any bytes: test_report TRACE..
  *
  * Each trace is told as it is, and with some of its bytes changed; random bytes are told as well. The books must balance
- * and agree with the image, every frame that came to nobody and every refusal must be told, each refusal must have a reason
- * that fits it, and so must each frame that no mailbox took.
+ * and agree with the image, every frame that came to nobody and every refusal must be told, each refusal must have a
+ * reason that fits it, and so must each frame that no mailbox took.
  * host/test_sanitized runs it under the compiler's sanitizers, on the machine's own processor.
  */
 #include <stdlib.h>
@@ -63,10 +63,11 @@ static uint32_t compared_last(const uint8_t *image, uint64_t count, uint64_t *en
 }
 
 /*
- * That the search ended at a mailbox is said of a remote frame wherever fewer were compared than are enabled, and of the one
- * that was compared last, which transmits and has RFH 0. Of a data frame it is never said.
+ * That the search ended at a mailbox is said of a remote frame wherever fewer were compared than are enabled, and of
+ * the one that was compared last, which transmits and has RFH 0. Of a data frame it is never said.
  */
-static void check_search(const uint8_t *before, const uint8_t *event, uint64_t answer, const char *words, const char *name)
+static void check_search(const uint8_t *before, const uint8_t *event, uint64_t answer, const char *words,
+                         const char *name)
 {
     static const char ended[] = "NOT TAKEN: it matches mailbox ";
     uint64_t enabled, count = frostsorrel_answer_count(answer);
@@ -125,8 +126,8 @@ static void check_missed(const struct run *r, const char *name)
 }
 
 /*
- * The report tells of such an entry at its step, and under Losses, where the line begins with two blanks. The picture has a
- * mark for each, and one more in its legend.
+ * The report tells of such an entry at its step, and under Losses, where the line begins with two blanks. The picture
+ * has a mark for each, and one more in its legend.
  */
 static void check_losses(const struct run *r, const struct text *text, const struct text *page, enum entry entry,
                          const char *word, const char *mark, const char *name)

@@ -83,7 +83,10 @@ static int hears(const uint8_t *image)
            word_of(image, FROSTSORREL_TEC) < FROSTSORREL_BUS_OFF_TEC;
 }
 
-/* The answer names the mailbox: one that receives has stored it, one that sends is to reply. What was compared was heard. */
+/*
+ * The answer names the mailbox: one that receives has stored it, one that sends is to reply. A frame that was compared
+ * was heard.
+ */
 static void book_frame(struct books *b, const uint8_t *before, uint64_t answer)
 {
     uint32_t n = frostsorrel_answer_mailbox(answer);

@@ -16,8 +16,8 @@ struct lines {
 
 /*
  * Reads a text, standard input for "-", turns its lines into something else, and writes that, to standard output where
- * the path is 0 or "-". One of more than 4 MiB, or with bytes of 0, is refused. Where a line is faulty the faults are told and nothing is
- * written. Answers an exit status.
+ * the path is 0 or "-". One of more than 4 MiB, or with bytes of 0, is refused. Where a line is faulty the faults are
+ * told and nothing is written. Answers an exit status.
  */
 int turn_text(const char *from, const char *to, void (*turn)(struct lines *text, struct text *out));
 

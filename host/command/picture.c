@@ -1,7 +1,8 @@
 /*
  * The picture of a run, as SVG. A long run is cut into bands of steps, one below the other, each an SVG of its own, so
- * that paper can break between them. In a band stand the steps, the mode, the refused events, the frames that came to no
- * mailbox, a lane for each mailbox with anything to show there, and the two error counters. Every mark has a shape of its own beside its colour.
+ * that paper can break between them. In a band stand the steps, the mode, the refused events, the frames that came to
+ * no mailbox, a lane for each mailbox with anything to show there, and the two error counters. Every mark has a shape
+ * of its own beside its colour.
  */
 #include <string.h>
 
@@ -42,7 +43,7 @@ static const struct {
     {"store", "stored", "M-1 0A1 1 0 1 0 1 0A1 1 0 1 0-1 0z"},
     {"lost", "stored over a held frame: LOST", "M-1.5 0L0-1.5L1.5 0L0 1.5z"},
     {"release", "released", "M-1 0A1 1 0 1 0 1 0A1 1 0 1 0-1 0z"},
-    {"drop", "held frame DROPPED by a reset", "M-1.2-1.2H1.2L0 1.2z"},
+    {"drop", "held frame DROPPED", "M-1.2-1.2H1.2L0 1.2z"},
     {"request", "request raised", "M-1 1H1L0-1z"},
     {"sent", "sent", "M-1-1H1V1H-1z"},
     {"abort", "aborted", "M-1-1H1V1H-1zL1 1M-1 1L1-1"},
@@ -53,8 +54,11 @@ static const struct {
 
 static enum mark mark_of(enum entry entry)
 {
-    static const enum mark of[ENTRIES] = {MARK_STORED, MARK_RELEASED, MARK_LOST,  MARK_DROPPED, MARK_RAISED,   MARK_SENT,
-                                          MARK_ABORTED, MARK_ENDED,   MARK_ENDED, MARK_NOT_HEARD, MARK_NOT_TAKEN};
+    static const enum mark of[ENTRIES] = {
+        MARK_STORED, MARK_RELEASED, MARK_LOST,    MARK_DROPPED, /* frames */
+        MARK_RAISED, MARK_SENT,     MARK_ABORTED, MARK_ENDED,   MARK_ENDED, /* requests */
+        MARK_NOT_HEARD, MARK_NOT_TAKEN,
+    };
 
     return of[entry];
 }

@@ -31,7 +31,7 @@ void tell_state(struct pen *p, const struct run *r);
 /* "19 steps, 1 frame lost, 2 not heard, 1 event refused" */
 void say_sums(struct text *t, const struct run *r);
 
-/* The worst that befell a frame: LOSS where one was overwritten or dropped, MISSED where one came to no mailbox, or BOOKED. */
+/* What befell a frame at worst: LOSS if one was overwritten or dropped, MISSED if one came to no mailbox, or BOOKED. */
 enum kind worst_of(const struct run *r);
 
 /* Adds the identifier of a mailbox behind these words, where it had no other since it was first in use. */

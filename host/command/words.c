@@ -243,8 +243,8 @@ void say_answer(struct text *t, const uint8_t *before, const uint8_t *event, uin
 }
 
 /*
- * The transmit mailbox at which the search for a mailbox ended, 32 if none did. The library itself says: it would name that
- * one if all of them replied (RFH), and nothing else of the answer would be another.
+ * The transmit mailbox at which the search for a mailbox ended, 32 if it ended at none. The library itself says: it
+ * would name that one, after as many comparisons, if all of them replied (RFH).
  */
 static uint32_t search_ended_at(const uint8_t *before, const uint8_t *event, uint64_t answer)
 {
@@ -265,7 +265,8 @@ static void say_not_taken(struct text *t, const uint8_t *before, const uint8_t *
 
     text_add(t, "NOT TAKEN: ");
     if (n != FROSTSORREL_NO_MAILBOX)
-        text_add(t, "it matches mailbox %lu, which transmits and does not reply (RFH 0): the search ends there", wide(n));
+        text_add(t, "it matches mailbox %lu, which transmits and does not reply (RFH 0): the search ends there",
+                 wide(n));
     else if (frostsorrel_event_value(event) & FROSTSORREL_FRAME_RTR)
         text_add(t, "no enabled mailbox matches it");
     else
