@@ -1,5 +1,5 @@
-// The C entry points.
-ghost use Rattle.rules.specs.Calls.{FreshCall, StepCall, ReadCall, ListingCall};
+// The C entry points of the model.
+ghost use Rattle.rules.specs.Calls.{FreshCall, StepCall, ReadCall};
 
 // uint64_t frostsorrel_fresh(uint8_t *image, size_t image_len)
 #[no_mangle]
@@ -23,12 +23,4 @@ pub extern "C" fn frostsorrel_read(image: &[u8], number: u32) -> u64
     ensures { λ r. ⌜ ReadCall (now (image .entry)) number r ⌝ }
 {
     reading::read(image, number)
-}
-
-// uint64_t frostsorrel_listing(const uint8_t *trace, size_t trace_len, uint8_t *text, size_t text_len)
-#[no_mangle]
-pub extern "C" fn frostsorrel_listing(trace: &[u8], text: &mut [u8]) -> u64
-    ensures { λ r. ⌜ ListingCall (now (trace .entry)) (now (text .entry)) (now (text .exit)) r ⌝ }
-{
-    trace::list(trace, text) as u64
 }

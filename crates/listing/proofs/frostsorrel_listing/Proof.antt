@@ -1,7 +1,7 @@
 use borrow.Author.Needs.{needs}
 use native.Mathlib.Omega.{arith}
-use Rattle.frostsorrel.proofs.frostsorrel_listing.Statement.{statement}
-use Rattle.frostsorrel.proofs.frostsorrel_listing.Tie as tie
+use Rattle.listing.proofs.frostsorrel_listing.Statement.{statement}
+use Rattle.listing.proofs.frostsorrel_listing.Tie as tie
 use Rattle.rules.proofs.Calls.{listing-call}
 
 list-requires : tie.Need-list-requires
