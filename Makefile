@@ -39,7 +39,7 @@ host-test:
 	@host/test
 
 compare:
-	@host/build compare draw_traces
+	@host/build compare draw_traces frostsorrel
 	@host/run compare $(STEPS) $(SEED)
 	@host/test_traces $(TRACES) $(SEED)
 
