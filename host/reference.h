@@ -1,8 +1,8 @@
 /*
- * A second implementation of document 01, in plain C, apart from the proved one: it was written from
- * document 01 and docs/DECISIONS.md alone. The tests hold the two against each other.
+ * A second implementation of documents 01 and 02, in plain C, apart from the proved one: it was written
+ * from those two and docs/DECISIONS.md alone. The tests hold the two against each other.
  *
- * The first three functions have the signatures and the answers of those in frostsorrel.h.
+ * The first four functions have the signatures and the answers of those in frostsorrel.h.
  */
 #ifndef REFERENCE_H
 #define REFERENCE_H
@@ -13,6 +13,8 @@
 uint64_t reference_fresh(uint8_t *image, size_t image_len);
 uint64_t reference_step(uint8_t *image, size_t image_len, const uint8_t *event, size_t event_len);
 uint64_t reference_read(const uint8_t *image, size_t image_len, uint32_t number);
+uint64_t reference_compare(const uint8_t *first, size_t first_len, const uint8_t *second,
+                           size_t second_len, uint8_t *list, size_t list_len);
 
 #define LISTING_ROOM 39034 /* room for any listing (D80), and the 0 that C puts behind it */
 

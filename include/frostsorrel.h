@@ -24,12 +24,13 @@
 extern "C" {
 #endif
 
-#define FROSTSORREL_VERSION "0.1.0"
+#define FROSTSORREL_VERSION "0.2.0"
 #define FROSTSORREL_VERSION_MAJOR 0
-#define FROSTSORREL_VERSION_MINOR 1
+#define FROSTSORREL_VERSION_MINOR 2
 #define FROSTSORREL_VERSION_PATCH 0
 
 #define FROSTSORREL_IMAGE_BYTES 640
+#define FROSTSORREL_IMAGE_WORDS 160 /* four of each mailbox, then the 32 register words */
 #define FROSTSORREL_EVENT_BYTES 16
 #define FROSTSORREL_MAILBOXES 32
 #define FROSTSORREL_NO_MAILBOX 32
@@ -37,6 +38,9 @@ extern "C" {
 #define FROSTSORREL_SECTION_EVENTS 1000 /* the most that a section of a trace has */
 #define FROSTSORREL_TRACE_BYTES 48006   /* the longest trace: three full sections */
 #define FROSTSORREL_LISTING_BYTES 39033 /* room for any listing */
+
+#define FROSTSORREL_ENTRY_BYTES 12        /* of a list of differences */
+#define FROSTSORREL_DIFFERENCE_BYTES 1920 /* room for any such list: an entry for each word */
 
 /* The refusals. Where several apply, the lowest is given. */
 enum {
@@ -48,7 +52,8 @@ enum {
     FROSTSORREL_BUSY = 5,        /* something is being sent, or waits to be */
     FROSTSORREL_LOCKED = 6,      /* not in this mode, or not while the mailbox is enabled */
     FROSTSORREL_SLOT_EMPTY = 7,  /* an outcome, but nothing is being sent */
-    FROSTSORREL_BAD_TRACE = 8    /* the file is no trace; no step answers it */
+    FROSTSORREL_BAD_TRACE = 8,   /* the file is no trace; no step answers it */
+    FROSTSORREL_NO_ROOM = 9      /* what is to be written does not fit; no step answers it */
 };
 
 /* The operations of an event: its first byte. */
@@ -257,6 +262,28 @@ uint64_t frostsorrel_read(const uint8_t *image, size_t image_len, uint32_t numbe
  */
 uint64_t frostsorrel_listing(const uint8_t *trace, size_t trace_len, uint8_t *text, size_t text_len);
 
+/*
+ * Compares two images and lists every word in which they differ.
+ *
+ * The words of an image are numbered from its first byte: 4 * mailbox + word for those of a mailbox,
+ * 128 + number for the register words, 0 to 159 in all. The list has one entry for each word that
+ * differs and none for an equal one, in rising order. An entry is 12 bytes: the word's number, what
+ * the first image has there, what the second has, each in four bytes, low byte first. The second
+ * contents, put in their places in the first image, make the second.
+ *
+ * The first line that applies decides:
+ *
+ *   first or second is not a good image (a length other than 640 included)    refusal 1
+ *   12 bytes for each entry are more than list_len                            refusal 9
+ *
+ * A refused call writes no byte and answers mailbox 32, count 0. Any other puts the list at the front
+ * of `list`, where every byte past it stays, and answers refusal 0, mailbox 32, and in the count how
+ * many entries there are. Two equal images have an empty list, which fits a list_len of 0; 1,920 bytes
+ * are room for any. The images are only read, and may be the same one; `list` may not overlap either.
+ */
+uint64_t frostsorrel_compare(const uint8_t *first, size_t first_len, const uint8_t *second,
+                             size_t second_len, uint8_t *list, size_t list_len);
+
 /* ---- identifiers: the number that people write, and word 0 of a mailbox or the value of a frame */
 
 /* A standard identifier, 0 to 0x7FF, in its place. Bits above those are dropped. */
@@ -367,9 +394,28 @@ static inline uint32_t frostsorrel_register_word(const uint8_t *image, uint32_t 
     return frostsorrel_word(image + 16 * FROSTSORREL_MAILBOXES + 4 * number);
 }
 
+/* ---- lists of differences: entry 0 and on, as many as the answer counts */
+
+/* The number of the word: 4 * mailbox + word, or 128 + the number of a register word. */
+static inline uint32_t frostsorrel_entry_number(const uint8_t *list, size_t entry)
+{
+    return frostsorrel_word(list + FROSTSORREL_ENTRY_BYTES * entry);
+}
+
+/* What the first image has there, and what the second. */
+static inline uint32_t frostsorrel_entry_first(const uint8_t *list, size_t entry)
+{
+    return frostsorrel_word(list + FROSTSORREL_ENTRY_BYTES * entry + 4);
+}
+
+static inline uint32_t frostsorrel_entry_second(const uint8_t *list, size_t entry)
+{
+    return frostsorrel_word(list + FROSTSORREL_ENTRY_BYTES * entry + 8);
+}
+
 /* ---- answers */
 
-/* The parts of what fresh and step answer: refusal + 256 * mailbox + 65536 * count. */
+/* The parts of what fresh, step and compare answer: refusal + 256 * mailbox + 65536 * count. */
 static inline uint32_t frostsorrel_answer_refusal(uint64_t answer)
 {
     return (uint32_t)(answer & 0xFF);
@@ -450,7 +496,7 @@ static inline const char *frostsorrel_mode_name(uint32_t mode)
 static inline const char *frostsorrel_refusal_name(uint32_t refusal)
 {
     static const char *const names[] = {"accepted", "bad image", "unknown",    "asleep",   "not allowed",
-                                        "busy",     "locked",    "slot empty", "bad trace"};
+                                        "busy",     "locked",    "slot empty", "bad trace", "no room"};
 
     return frostsorrel_name_of(names, sizeof names / sizeof names[0], refusal);
 }
@@ -467,7 +513,8 @@ static inline const char *frostsorrel_refusal_reason(uint32_t refusal)
         "a mailbox is being sent, or waits to be",
         "this cannot be changed in this mode, or while the mailbox is enabled",
         "an outcome came while nothing was being sent",
-        "the file is not three sections of events that may stand there"};
+        "the file is not three sections of events that may stand there",
+        "what is to be written does not fit the bytes that it is to stand in"};
 
     return frostsorrel_name_of(names, sizeof names / sizeof names[0], refusal);
 }
