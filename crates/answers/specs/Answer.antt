@@ -1,7 +1,8 @@
 -- The whole outcome of a call, and the one number that C sees of it.
 use Prim.Native.Nat.{ℕ, _+_, _*_, _^_}
 use mathlib.Core.Path.{_≡_}
-use mathlib.Core.List.{List}
+use mathlib.Core.List.{List, _++_}
+use lib.ListN.{length, drop}
 
 -- The events, refusals: the mailbox that an answer names where it names none.
 abbrev pub noMailbox : ℕ
@@ -47,3 +48,11 @@ packedReading refusal value = value + 2 ^ 32 * refusal
 -- The promise of a register read.
 pub record ReadPromise (o : Reading) (answer : ℕ) : Type 0 where
   pub answered : answer ≡ packedReading (o .refusal) (o .value)
+
+-- Document 02: a refused call of those that write a list names no mailbox, counts nothing, and leaves the lent bytes o as they came.
+abbrev pub Refuses : ℕ → List ℕ → List ℕ → ℕ → Type 0
+Refuses r o exit answer = (exit ≡ o) × (answer ≡ packed r noMailbox 0)
+
+-- Document 02: one that is not refused puts the bytes of its list at the front of o, where those past it stay, and counts the entries.
+abbrev pub Tells : ℕ → List ℕ → List ℕ → List ℕ → ℕ → Type 0
+Tells count text o exit answer = (exit ≡ text ++ drop (length text) o) × (answer ≡ packed 0 noMailbox count)

@@ -17,6 +17,7 @@ use Rattle.fresh.specs.Fresh.{zeroImage, freshImage, fresh}
 use Rattle.fresh.proofs.Good.{zero-length, fresh-facts}
 use Rattle.model.specs.Step.{step}
 use Rattle.model.proofs.Kept.{step-good}
+use Rattle.texts.specs.Text.{decimal}
 use Rattle.trace.specs.Trace as trace
 use Rattle.trace.proofs.Bound.{listing-most}
 use Rattle.trace.proofs.Unique.{front, answer-most}
@@ -32,7 +33,7 @@ use Rattle.rules.proofs.Files.{is-trace, trace-formed}
 
 -- ---- the text
 
-line-same : (n : ℕ) (o : Outcome) → line trace.decimal n o ≡ trace.line n o
+line-same : (n : ℕ) (o : Outcome) → line decimal n o ≡ trace.line n o
 unfolding trace.lineOf
 line-same n o = simp append-assoc
 
@@ -84,14 +85,14 @@ module _ (es : List (List ℕ)) (small : (n : ℕ) → Bytes (getD es n [])) whe
 
   -- the text, from a beginning and outcomes that are the product's
   text-of : (g : ℕ → Outcome) → g 0 ≡ accepted freshImage → ((n : ℕ) → n < length es → g (suc n) ≡ step (g n .image) (getD es n []))
-      → wholeText trace.decimal g (length es) ≡ text es
+      → wholeText decimal g (length es) ≡ text es
   unfolding trace.ending
   text-of g z h =
-      let l = upTo (length es) (λ n. line trace.decimal n (g n)) in
+      let l = upTo (length es) (λ n. line decimal n (g n)) in
       let e : l ≡ trace.lines 1 freshImage es =
-      texts es 1 g (λ n. line trace.decimal n (g n)) h (λ n. let q : suc n ≡ 1 + n = omega arith in line-same (suc n) (g (suc n)) ∙ ap (λ (j : ℕ). trace.line j (g (suc n))) q)
+      texts es 1 g (λ n. line decimal n (g n)) h (λ n. let q : suc n ≡ 1 + n = omega arith in line-same (suc n) (g (suc n)) ∙ ap (λ (j : ℕ). trace.line j (g (suc n))) q)
       ∙ ap (λ (o : Outcome). trace.lines 1 (o .image) es) z in
-      whole-same trace.header l trace.endWord (trace.decimal (length es)) (10 ∷ [])
+      whole-same trace.header l trace.endWord (decimal (length es)) (10 ∷ [])
       ∙ ap (λ (x : List ℕ). trace.header ++ (x ++ trace.ending (length es))) e
 
   -- the product's run meets the rule
@@ -111,7 +112,7 @@ module _ (es : List (List ℕ)) (small : (n : ℕ) → Bytes (getD es n [])) whe
         outcome = outcomes;
         starts = made;
         steps = λ n l. rw (add-one n) (meets (outcomes n .image) n (good n));
-        decimal = trace.decimal;
+        decimal = decimal;
         numerals = numeral;
         whole = sym (text-of outcomes refl (λ n l. refl));
       }
@@ -134,7 +135,7 @@ module _ (es : List (List ℕ)) (small : (n : ℕ) → Bytes (getD es n [])) whe
 
     run-one : t ≡ text es
     run-one =
-        let d : r .decimal ≡ trace.decimal = fun-ext (λ n. numeral-one n (r .decimal n) (r .numerals n)) in
+        let d : r .decimal ≡ decimal = fun-ext (λ n. numeral-one n (r .decimal n) (r .numerals n)) in
         r .whole
         ∙ ap (λ (d : ℕ → List ℕ). wholeText d (r .outcome) (length es)) d
         ∙ text-of (r .outcome) begun (λ n l. next n l (keeps n (omega arith)))

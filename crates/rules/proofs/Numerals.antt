@@ -7,8 +7,8 @@ use native.Mathlib.Decide.{decLt}
 use native.Mathlib.Omega.{arith}
 use lib.ListN.{length, length-append, List·getD-append}
 use lib.Seq.{getD-append-seam}
-use Rattle.trace.specs.Trace.{decimal}
-use Rattle.trace.proofs.Writing.{decimal-short, decimal-long}
+use Rattle.texts.specs.Text.{decimal}
+use Rattle.texts.proofs.Decimal.{decimal-short, decimal-long}
 use Rattle.rules.specs.Words.{byte}
 use Rattle.rules.specs.Listing.{Numeral}
 

@@ -9,8 +9,9 @@ use lib.ListN.{length, length-append}
 use Rattle.answers.specs.Answer.{Outcome}
 use Rattle.model.specs.Step.{step}
 use Rattle.fresh.specs.Fresh.{freshImage}
-use Rattle.trace.specs.Trace.{endOf, wellFormed, events, decimal, field, lineOf, line, lines, header, refusedLine, endWord, ending, run, listing, longest, space, feed}
-use Rattle.trace.proofs.Writing.{digits-one, digits-two, digits-four}
+use Rattle.texts.specs.Text.{decimal, field}
+use Rattle.trace.specs.Trace.{endOf, wellFormed, events, lineOf, line, lines, header, refusedLine, endWord, ending, run, listing, longest, space, feed}
+use Rattle.texts.proofs.Decimal.{digits-one, digits-two, digits-four}
 use Rattle.trace.proofs.Answers.{Small, step-small}
 use Rattle.trace.proofs.Runs.{formed, event-count}
 

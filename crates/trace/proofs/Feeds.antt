@@ -9,7 +9,8 @@ use lib.ListN.{length}
 use borrow.Author.Tests.{ne-eqb}
 use Rattle.model.specs.Step.{step}
 use Rattle.fresh.specs.Fresh.{freshImage}
-use Rattle.trace.specs.Trace.{wellFormed, events, decimalIn, decimal, field, lineOf, line, lines, header, endWord, ending, run, listing, space, feed}
+use Rattle.texts.specs.Text.{decimalIn, decimal, field}
+use Rattle.trace.specs.Trace.{wellFormed, events, lineOf, line, lines, header, endWord, ending, run, listing, space, feed}
 
 -- how many line feeds a text has
 unfoldable pub feeds : List ℕ → ℕ

@@ -1,5 +1,4 @@
 -- Theorems of the trace file and of its listing.
-pub mod Writing
 pub mod Answers
 pub mod Runs
 pub mod Bound

@@ -10,8 +10,9 @@ use borrow.Author.Tests.{eqb-true, leb-true}
 use Rattle.bits.proofs.Sets.{and-l, and-r}
 use Rattle.model.specs.Step.{step}
 use Rattle.events.specs.Parts.{eventBytes}
-use Rattle.trace.specs.Trace.{countAt, endOf, second, third, takes, placed, sound, wellFormed, eventsFrom, section, events, line, lines, imageAfter, written, Put}
-use Rattle.trace.proofs.Writing.{as-text, kept, onward, behind-both, both-put, room, front}
+use Rattle.texts.specs.Text.{written, Put}
+use Rattle.trace.specs.Trace.{countAt, endOf, second, third, takes, placed, sound, wellFormed, eventsFrom, section, events, line, lines, imageAfter}
+use Rattle.texts.proofs.Writing.{as-text, kept, onward, behind-both, both-put, room, front}
 
 -- ---- one event more
 

@@ -8,8 +8,9 @@ use lib.ListN.{length, take, drop}
 use lib.Seq.{take-append-seam}
 use mathlib.Core.Bool.{Bool, true, false}
 use borrow.Author.Tests.{le-ltb, ltb-false}
-use Rattle.trace.specs.Trace.{listing, longest, Put, Listed}
-use Rattle.trace.proofs.Writing.{written-is}
+use Rattle.texts.specs.Text.{Put}
+use Rattle.trace.specs.Trace.{listing, longest, Listed}
+use Rattle.texts.proofs.Writing.{written-is}
 use Rattle.trace.proofs.Bound.{listing-most}
 
 -- the listing, written from the front on

@@ -1,12 +1,13 @@
 -- The trace program: what a trace file means, and the listing that it gets. A file and a listing are lists of bytes.
-use Prim.Native.Nat.{ℕ, zero, suc, _+_, _*_, _/_, _%_}
+use Prim.Native.Nat.{ℕ, zero, suc, _+_, _*_}
 use mathlib.Core.Path.{_≡_}
 use mathlib.Core.Bool.{Bool, true, cond, _&&_, _||_}
 use mathlib.Core.List.{List, [], _∷_, _++_}
 use lib.Dec.{eqb, ltb, leb}
-use lib.ListN.{getD, length, take, drop, set}
+use lib.ListN.{getD, length, take, drop}
 use Rattle.events.specs.Parts.{eventBytes}
 use Rattle.answers.specs.Answer.{Outcome}
+use Rattle.texts.specs.Text.{field}
 use Rattle.model.specs.Step.{step}
 use Rattle.fresh.specs.Fresh.{freshImage}
 
@@ -62,24 +63,11 @@ events f = section f 0 ++ (section f (second f) ++ section f (third f))
 
 -- ---- the text
 
--- A number in decimal digits, without zeros in front: its last digit behind those of a tenth of it, if that is not 0. It has
--- fewer digits than `turns`.
-unfoldable pub decimalIn : ℕ → ℕ → List ℕ
-decimalIn zero n = []
-decimalIn (suc turns) n = cond (ltb n 10) [] (decimalIn turns (n / 10)) ++ ((48 + n % 10) ∷ [])
-
-unfoldable pub decimal : ℕ → List ℕ
-decimal n = decimalIn (suc n) n
-
 abbrev pub space : ℕ
 space = 32
 
 abbrev pub feed : ℕ
 feed = 10
-
--- A number and the byte that ends it.
-abbrev pub field : ℕ → ℕ → List ℕ
-field n end = decimal n ++ (end ∷ [])
 
 -- The trace program: the line of an event: its number, and the code, the mailbox and the count of its step.
 unfoldable pub lineOf : ℕ → ℕ → ℕ → ℕ → List ℕ
@@ -122,16 +110,6 @@ unfoldable pub listing : List ℕ → List ℕ
 listing f = cond (wellFormed f) (run f) refusedLine
 
 -- ---- a listing in lent bytes
-
--- The bytes o with a text from `at` on.
-unfoldable pub written : List ℕ → ℕ → List ℕ → List ℕ
-written o at [] = o
-written o at (x ∷ t) = written (set o at x) (at + 1) t
-
--- What a writer of a text promises: the bytes at exit have it, and the answer is the place behind it.
-pub record Put (o : List ℕ) (at : ℕ) (text exit : List ℕ) (answer : ℕ) : Type 0 where
-  pub bytes : exit ≡ written o at text
-  pub behind : answer ≡ at + length text
 
 -- Room for any listing: the header, 3,000 lines of at most 13 bytes, and the line that ends them. None needs all of it, since lines
 -- with small numbers are shorter.

@@ -5,13 +5,14 @@ ghost use Prim.Native.Nat.{_+_, _*_, _%_, _<_, _≤_};
 ghost use lib.ListN.{length, getD};
 ghost use Rattle.model.specs.Step.{step as stepOf};
 ghost use Rattle.fresh.specs.Fresh.{freshImage};
-ghost use Rattle.trace.specs.Trace.{countAt, endOf, second, third, takes as takesOf, placed, sound, wellFormed, section, events, line, lines, imageAfter, run as runOf, longest, Put, Listed};
+ghost use Rattle.texts.specs.Text.{Put};
+ghost use Rattle.trace.specs.Trace.{countAt, endOf, second, third, takes as takesOf, placed, sound, wellFormed, section, events, line, lines, imageAfter, run as runOf, longest, Listed};
 
 mod text;
 
 use text::put_ending;
 use text::put_line;
-use text::put_text;
+use texts::put_text;
 
 // So many bytes have room for any listing.
 pub const LONGEST: usize = 39033;

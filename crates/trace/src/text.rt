@@ -1,60 +1,10 @@
-// Text in lent bytes, from a place on; each function answers the place behind what it wrote.
-ghost use mathlib.Core.Path.{_≡_};
-ghost use mathlib.Core.List.{[], _∷_};
-ghost use Prim.Native.Nat.{_+_, _%_, _<_, _≤_};
+// The lines of a listing, put into lent bytes; each function answers the place behind what it wrote.
+ghost use Prim.Native.Nat.{_+_, _≤_};
 ghost use lib.ListN.{length};
-ghost use Rattle.trace.specs.Trace.{decimal, field, lineOf, ending, Put};
-
-// One byte.
-fn put(out: &mut [u8], at: usize, x: u8) -> usize
-    requires { ⌜ at < length (now out) ⌝ }
-    ensures { λ r. ⌜ Put (now (out .entry)) at (x ∷ []) (now (out .exit)) r ⌝ }
-{
-    out[at] = x;
-    at + 1
-}
-
-// Given bytes.
-pub fn put_text(out: &mut [u8], at: usize, text: &[u8]) -> usize
-    requires { ⌜ at + length (now text) ≤ length (now out) ⌝ }
-    ensures { λ r. ⌜ Put (now (out .entry)) at (now (text .entry)) (now (out .exit)) r ⌝ }
-{
-    let mut place = at;
-    let mut i: usize = 0;
-    while i < text.len() {
-        place = put(out, place, text[i]);
-        i += 1;
-    }
-    place
-}
-
-// The last decimal digit of n, as a byte of text.
-fn digit(n: u64) -> u8
-    ensures { λ r. ⌜ r ≡ 48 + n % 10 ⌝ }
-{
-    48 + (n % 10) as u8
-}
-
-// A number in decimal digits: the last one stands behind those of a tenth of it.
-fn put_number(out: &mut [u8], at: usize, n: u64) -> usize
-    requires { ⌜ at + length (decimal n) ≤ length (now out) ⌝ }
-    ensures { λ r. ⌜ Put (now (out .entry)) at (decimal n) (now (out .exit)) r ⌝ }
-{
-    if n < 10 {
-        return put(out, at, digit(n));
-    }
-    let last = put_number(out, at, n / 10);
-    put(out, last, digit(n))
-}
-
-// A number and the byte that ends it.
-fn put_field(out: &mut [u8], at: usize, n: u64, end: u8) -> usize
-    requires { ⌜ at + length (field n end) ≤ length (now out) ⌝ }
-    ensures { λ r. ⌜ Put (now (out .entry)) at (field n end) (now (out .exit)) r ⌝ }
-{
-    let last = put_number(out, at, n);
-    put(out, last, end)
-}
+ghost use Rattle.texts.specs.Text.{Put};
+ghost use Rattle.trace.specs.Trace.{lineOf, ending};
+use texts::put_field;
+use texts::put_text;
 
 // The line of an event.
 pub fn put_line(

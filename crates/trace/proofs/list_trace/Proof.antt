@@ -5,7 +5,7 @@ use native.Mathlib.Omega.{arith}
 use lib.ListN.{length}
 use Rattle.fresh.specs.Fresh.{freshImage}
 use Rattle.trace.specs.Trace.{events, lines, ending, run}
-use Rattle.trace.proofs.Writing.{as-text, both-put, room, front}
+use Rattle.texts.proofs.Writing.{as-text, both-put, room, front}
 use Rattle.trace.proofs.Bound.{run-most}
 use borrow.Author.Needs.{needs}
 use Rattle.trace.proofs.list_trace.Statement.{statement}

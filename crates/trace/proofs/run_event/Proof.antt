@@ -1,5 +1,5 @@
 use Rattle.model.specs.Step.{step}
-use Rattle.trace.proofs.Writing.{as-text}
+use Rattle.texts.proofs.Writing.{as-text}
 use Rattle.trace.proofs.Answers.{step-small, line-of}
 use borrow.Author.Needs.{needs}
 use Rattle.trace.proofs.run_event.Statement.{statement}

@@ -3,7 +3,7 @@ use Prim.Native.Nat.{ℕ, _+_, _-_}
 use mathlib.Core.Path.{_≡_, ap}
 use native.Mathlib.Omega.{arith}
 use lib.ListN.{take, drop}
-use Rattle.trace.proofs.Writing.{kept}
+use Rattle.texts.proofs.Writing.{kept}
 use Rattle.trace.proofs.Runs.{Going}
 use Rattle.trace.proofs.run_section.Statement.{statement}
 use Rattle.trace.proofs.run_section.Tie as tie

@@ -1,5 +1,6 @@
-use Rattle.trace.specs.Trace.{endWord, field, feed}
-use Rattle.trace.proofs.Writing.{both-put, room, front}
+use Rattle.texts.specs.Text.{field}
+use Rattle.trace.specs.Trace.{endWord, feed}
+use Rattle.texts.proofs.Writing.{both-put, room, front}
 use Rattle.trace.specs.Trace.{ending}
 use borrow.Author.Needs.{needs}
 use Rattle.trace.proofs.text.put_ending.Statement.{statement}

@@ -1,6 +1,7 @@
-use Rattle.trace.specs.Trace.{field, space, feed}
+use Rattle.texts.specs.Text.{field}
+use Rattle.trace.specs.Trace.{space, feed}
 use mathlib.Core.List.{_++_}
-use Rattle.trace.proofs.Writing.{both-put, room, front}
+use Rattle.texts.proofs.Writing.{both-put, room, front}
 use Rattle.trace.specs.Trace.{lineOf}
 use borrow.Author.Needs.{needs}
 use Rattle.trace.proofs.text.put_line.Statement.{statement}

@@ -1,8 +1,8 @@
 use mathlib.Core.Path.{refl}
-use Rattle.trace.specs.Trace.{written}
+use Rattle.texts.specs.Text.{written}
 use borrow.Author.Needs.{needs}
-use Rattle.trace.proofs.text.put.Statement.{statement}
-use Rattle.trace.proofs.text.put.Tie as tie
+use Rattle.texts.proofs.put.Statement.{statement}
+use Rattle.texts.proofs.put.Tie as tie
 
 slice-write-out : tie.Need-slice-write-out
 slice-write-out c = search needs

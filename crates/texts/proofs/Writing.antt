@@ -1,65 +1,13 @@
--- Laws of the text: decimal digits, and text written into lent bytes.
-use Prim.Native.Nat.{ℕ, zero, suc, _+_, _*_, _/_, _%_, _<_, _≤_}
-use mathlib.Core.Path.{_≡_, refl, sym, _∙_, ap}
-use mathlib.Core.Bool.{Bool, true, false, cond}
+-- Texts in lent bytes: what stands where, and what writers in a row promise together.
+use Prim.Native.Nat.{ℕ, _+_, _/_, _%_, _≤_}
+use mathlib.Core.Path.{_≡_, refl, sym, _∙_, ap, ap₂}
 use mathlib.Core.List.{List, [], _∷_, _++_, append-assoc}
 use native.Mathlib.Omega.{arith}
 use native.Mathlib.Numerals.{add-one}
-use lib.Dec.{ltb}
 use lib.ListN.{length, take, drop, set, length-append, length-set, take-append-drop}
 use lib.Seq.{take-suc-set, drop-set-lt}
-use borrow.Author.Tests.{ltb-true, ltb-false, lt-ltb, le-ltb}
-use Rattle.trace.specs.Trace.{decimalIn, decimal, written, Put}
-
--- ---- decimal digits
-
-abbrev last : ℕ → List ℕ
-last n = (48 + n % 10) ∷ []
-
--- more turns than the number needs change nothing
-enough : (j k n : ℕ) → n < j → n < k → decimalIn j n ≡ decimalIn k n
-unfolding decimalIn
-enough zero k n h l = absurd (omega arith)
-enough (suc j) zero n h l = absurd (omega arith)
-enough (suc j) (suc k) n h l = at (ltb n 10) refl (λ m. enough j k (n / 10) (omega arith) (omega arith))
-  where
-    at : (t : Bool) → ltb n 10 ≡ t → (10 ≤ n → decimalIn j (n / 10) ≡ decimalIn k (n / 10))
-        → cond t [] (decimalIn j (n / 10)) ++ last n ≡ cond t [] (decimalIn k (n / 10)) ++ last n
-    at true e r = refl
-    at false e r = ap (λ (x : List ℕ). x ++ last n) (r (ltb-false n 10 e))
-
-pub decimal-short : (n : ℕ) → n < 10 → decimal n ≡ (48 + n % 10) ∷ []
-unfolding decimal decimalIn
-decimal-short n h = rw (lt-ltb n 10 h)
-
-pub decimal-long : (n : ℕ) → 10 ≤ n → decimal n ≡ decimal (n / 10) ++ ((48 + n % 10) ∷ [])
-unfolding decimal decimalIn
-decimal-long n h =
-    rw (le-ltb n 10 h) (ap (λ (x : List ℕ). x ++ last n) (enough n (suc (n / 10)) (n / 10) (omega arith) (omega arith)))
-
--- how many digits: one more for a bound ten times as large
-digits-more : (b k : ℕ) → ((m : ℕ) → m < b → length (decimal m) ≤ k) → 1 ≤ k → (n : ℕ) → n < 10 * b → length (decimal n) ≤ suc k
-digits-more b k f p n h = at (ltb n 10) refl
-  where
-    at : (t : Bool) → ltb n 10 ≡ t → length (decimal n) ≤ suc k
-    at true e = rw (decimal-short n (ltb-true n 10 e)) (omega arith)
-    at false e =
-        let m = ltb-false n 10 e in
-        omega (arith, ap length (decimal-long n m) ∙ length-append (decimal (n / 10)) (last n), f (n / 10) (omega arith))
-
-pub digits-one : (n : ℕ) → n < 10 → length (decimal n) ≤ 1
-digits-one n h = rw (decimal-short n h) (omega arith)
-
-pub digits-two : (n : ℕ) → n < 100 → length (decimal n) ≤ 2
-digits-two n h = digits-more 10 1 digits-one (omega arith) n h
-
-digits-three : (n : ℕ) → n < 1000 → length (decimal n) ≤ 3
-digits-three n h = digits-more 100 2 digits-two (omega arith) n h
-
-pub digits-four : (n : ℕ) → n < 10000 → length (decimal n) ≤ 4
-digits-four n h = digits-more 1000 3 digits-three (omega arith) n h
-
--- ---- text in lent bytes
+use Rattle.words.specs.Word.{putWord}
+use Rattle.texts.specs.Text.{written, Put, wordBytes}
 
 pub length-written : (o : List ℕ) (at : ℕ) (t : List ℕ) → length (written o at t) ≡ length o
 unfolding written
@@ -93,6 +41,14 @@ written-is (x ∷ t) o at h =
     ∙ ap (λ (p : List ℕ). p ++ (t ++ drop (at + 1 + length t) (set o at x))) e1
     ∙ append-assoc (take at o) (x ∷ []) (t ++ drop (at + 1 + length t) (set o at x))
     ∙ ap (λ (p : List ℕ). take at o ++ (x ∷ (t ++ p))) e2
+
+-- a word is a text of four bytes
+pub written-word : (o : List ℕ) (at v : ℕ) → putWord o at v ≡ written o at (wordBytes v)
+unfolding written putWord
+written-word o at v =
+    let e2 : at + 2 ≡ at + 1 + 1 = omega arith in
+    let e3 : at + 3 ≡ at + 1 + 1 + 1 = omega arith in
+    ap₂ (λ (i j : ℕ). set (set (set (set o at (v % 256)) (at + 1) (v / 256 % 256)) i (v / 65536 % 256)) j (v / 16777216 % 256)) e2 e3
 
 -- ---- what two writers in a row promise together
 

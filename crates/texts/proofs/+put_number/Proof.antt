@@ -2,19 +2,20 @@ use mathlib.Core.Path.{sym, _∙_, ap}
 use mathlib.Core.List.{[], _∷_}
 use native.Mathlib.Omega.{arith}
 use lib.ListN.{length}
-use Rattle.trace.specs.Trace.{decimal}
-use Rattle.trace.proofs.Writing.{decimal-short, decimal-long, as-text, both-put, room, front, kept}
+use Rattle.texts.specs.Text.{decimal}
+use Rattle.texts.proofs.Decimal.{decimal-short, decimal-long}
+use Rattle.texts.proofs.Writing.{as-text, both-put, room, front, kept}
 use Prim.Native.Nat.{_+_, _%_, _/_}
 use Prim.Native.Nat.{ℕ, _<_}
 use borrow.Fn.Kinds.{In}
 use borrow.Fn.PlainCycle.{Measures, is, falls, and}
-use Rattle.trace.proofs.text.put_number.Reads as put-number
-use Rattle.trace.proofs.text.put_number.Kinds as put-number-kinds
-use Rattle.trace.proofs.text.+put_number.Lts-put_number as put-number-lts
-use Rattle.trace.proofs.text.digit.Reads as digit-reads
-use Rattle.trace.proofs.text.put.Reads as put-reads
-use Rattle.trace.proofs.text.+put_number.{statement}
-use Rattle.trace.proofs.text.+put_number.Tie.{close}
+use Rattle.texts.proofs.put_number.Reads as put-number
+use Rattle.texts.proofs.put_number.Kinds as put-number-kinds
+use Rattle.texts.proofs.+put_number.Lts-put_number as put-number-lts
+use Rattle.texts.proofs.digit.Reads as digit-reads
+use Rattle.texts.proofs.put.Reads as put-reads
+use Rattle.texts.proofs.+put_number.{statement}
+use Rattle.texts.proofs.+put_number.Tie.{close}
 
 abbrev μ-put-number : Measures 1 put-number-kinds.ps ℕ
 μ-put-number κs a = a .1 .1 .0

@@ -5,10 +5,10 @@ use native.Mathlib.Omega.{arith}
 use native.Mathlib.Numerals.{add-one}
 use lib.ListN.{length, drop, getD, drop-of-length-le}
 use lib.Seq.{drop-cons}
-use Rattle.trace.specs.Trace.{written}
-use Rattle.trace.proofs.Writing.{onward, kept}
-use Rattle.trace.proofs.text.put_text.Statement.{statement}
-use Rattle.trace.proofs.text.put_text.Tie as tie
+use Rattle.texts.specs.Text.{written}
+use Rattle.texts.proofs.Writing.{onward, kept}
+use Rattle.texts.proofs.put_text.Statement.{statement}
+use Rattle.texts.proofs.put_text.Tie as tie
 
 abbrev Inv-loop : tie.InvT-loop
 Inv-loop out₀ at text place₀ i₀ out place i =

@@ -1,10 +1,10 @@
-use Rattle.trace.specs.Trace.{decimal}
-use Rattle.trace.proofs.Writing.{both-put, room, front}
+use Rattle.texts.specs.Text.{decimal}
+use Rattle.texts.proofs.Writing.{both-put, room, front}
 use mathlib.Core.List.{[], _∷_}
 use native.Mathlib.Omega.{arith}
 use borrow.Author.Needs.{needs}
-use Rattle.trace.proofs.text.put_field.Statement.{statement}
-use Rattle.trace.proofs.text.put_field.Tie as tie
+use Rattle.texts.proofs.put_field.Statement.{statement}
+use Rattle.texts.proofs.put_field.Tie as tie
 
 put-number-requires : tie.Need-put-number-requires
 put-number-requires c κs = front (decimal (c .before .before .args .n)) (c .before .before .args .end ∷ []) (c .before .before .args .at) _ (c .before .before .pre)

@@ -1,0 +1,3 @@
+-- Laws of what is put into lent bytes.
+pub mod Decimal
+pub mod Writing

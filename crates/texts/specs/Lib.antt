@@ -1,0 +1,2 @@
+-- Bytes, words and decimal numbers put into lent bytes.
+pub mod Text
