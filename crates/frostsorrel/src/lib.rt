@@ -1,5 +1,6 @@
 // The C entry points of the model.
 ghost use Rattle.rules.specs.Calls.{FreshCall, StepCall, ReadCall};
+ghost use Rattle.compare.specs.Compare.{CompareCall};
 
 // uint64_t frostsorrel_fresh(uint8_t *image, size_t image_len)
 #[no_mangle]
@@ -23,4 +24,13 @@ pub extern "C" fn frostsorrel_read(image: &[u8], number: u32) -> u64
     ensures { λ r. ⌜ ReadCall (now (image .entry)) number r ⌝ }
 {
     reading::read(image, number)
+}
+
+// uint64_t frostsorrel_compare(const uint8_t *first, size_t first_len, const uint8_t *second, size_t second_len,
+//                              uint8_t *list, size_t list_len)
+#[no_mangle]
+pub extern "C" fn frostsorrel_compare(first: &[u8], second: &[u8], list: &mut [u8]) -> u64
+    ensures { λ r. ⌜ CompareCall (now (first .entry)) (now (second .entry)) (now (list .entry)) (now (list .exit)) r ⌝ }
+{
+    compare::compare(first, second, list)
 }

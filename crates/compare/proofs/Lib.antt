@@ -1,0 +1,4 @@
+-- Comparing two images.
+pub mod Words
+pub mod Below
+pub mod Call

@@ -1,0 +1,3 @@
+-- Comparing two images.
+pub mod Compare
+pub mod Told
