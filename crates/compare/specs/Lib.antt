@@ -1,3 +1,4 @@
 -- Comparing two images.
 pub mod Compare
 pub mod Told
+pub mod Four

@@ -1,17 +1,94 @@
 // Document 02, a: comparing two images.
 ghost use mathlib.Core.Path.{_≡_};
-ghost use Prim.Native.Nat.{_+_, _*_, _≤_};
+ghost use Prim.Native.Nat.{_+_, _*_, _<_, _≤_};
+ghost use lib.Dec.{leb};
 ghost use lib.ListN.{length};
 ghost use Rattle.texts.specs.Text.{Put};
-ghost use Rattle.compare.specs.Compare.{entryBytes, differences, listBytes, CompareCall};
+ghost use Rattle.compare.specs.Compare.{imageWord, difference, differences, entryBytes, listBytes, CompareCall};
+ghost use Rattle.compare.specs.Four.{sameTwo, sameFour};
 
 const IMAGE_WORDS: usize = 160;
+
+// Room for any list.
+const LONGEST: usize = 1920;
 
 // One differing word: its number in the image, and both contents.
 pub struct Entry {
     pub number: u32,
     pub first: u32,
     pub second: u32,
+}
+
+// Words k and k + 1 in one number.
+fn double(s: &[u8], k: usize) -> u64
+    requires { ⌜ (length (now s) ≡ 640) × (k + 2 ≤ 160) ⌝ }
+    ensures { λ r. ⌜ r ≡ imageWord (now (s .entry)) k + 4294967296 * imageWord (now (s .entry)) (k + 1) ⌝ }
+{
+    words::word_at(s, 4 * k) as u64 + 4294967296 * (words::word_at(s, 4 * (k + 1)) as u64)
+}
+
+// Are two words the same, from number k on?
+fn same_two(first: &[u8], second: &[u8], k: usize) -> bool
+    requires { ⌜ (length (now first) ≡ 640) × (length (now second) ≡ 640) × (k + 2 ≤ 160) ⌝ }
+    ensures { λ r. ⌜ r ≡ sameTwo (now (first .entry)) (now (second .entry)) k ⌝ }
+{
+    double(first, k) == double(second, k)
+}
+
+fn same_four(first: &[u8], second: &[u8], k: usize) -> bool
+    requires { ⌜ (length (now first) ≡ 640) × (length (now second) ≡ 640) × (k + 4 ≤ 160) ⌝ }
+    ensures { λ r. ⌜ r ≡ sameFour (now (first .entry)) (now (second .entry)) k ⌝ }
+{
+    same_two(first, second, k) & same_two(first, second, k + 2)
+}
+
+fn put_entry(list: &mut [u8], at: usize, e: Entry) -> usize
+    requires { ⌜ at + 12 ≤ length (now list) ⌝ }
+    ensures { λ r. ⌜ Put (now (list .entry)) at (entryBytes e) (now (list .exit)) r ⌝ }
+{
+    let a = texts::put_word(list, at, e.number);
+    let b = texts::put_word(list, a, e.first);
+    texts::put_word(list, b, e.second)
+}
+
+// The entry of word k, where it differs.
+fn put_difference(first: &[u8], second: &[u8], k: usize, list: &mut [u8], at: usize) -> usize
+    requires { ⌜ (length (now first) ≡ 640) × (length (now second) ≡ 640) × (k < 160) × (at + length (listBytes (difference (now first) (now second) k)) ≤ length (now list)) ⌝ }
+    ensures { λ r. ⌜ Put (now (list .entry)) at (listBytes (difference (now (first .entry)) (now (second .entry)) k)) (now (list .exit)) r ⌝ }
+{
+    let x = words::word_at(first, 4 * k);
+    let y = words::word_at(second, 4 * k);
+    if x == y {
+        return at;
+    }
+    put_entry(
+        list,
+        at,
+        Entry {
+            number: k as u32,
+            first: x,
+            second: y,
+        },
+    )
+}
+
+// The list, at the front of bytes that have room for it. Of two images of one run most words are the same: those of a mailbox are
+// passed over at once.
+fn put_list(first: &[u8], second: &[u8], list: &mut [u8]) -> usize
+    requires { ⌜ (length (now first) ≡ 640) × (length (now second) ≡ 640) × (12 * length (differences (now first) (now second)) ≤ length (now list)) ⌝ }
+    ensures { λ r. ⌜ Put (now (list .entry)) 0 (listBytes (differences (now (first .entry)) (now (second .entry)))) (now (list .exit)) r ⌝ }
+{
+    let mut at: usize = 0;
+    let mut k: usize = 0;
+    while k < IMAGE_WORDS {
+        if k % 4 == 0 && same_four(first, second, k) {
+            k += 4;
+        } else {
+            at = put_difference(first, second, k, list, at);
+            k += 1;
+        }
+    }
+    at
 }
 
 // How many words differ.
@@ -30,53 +107,27 @@ fn count(first: &[u8], second: &[u8]) -> usize
     n
 }
 
-fn put_entry(list: &mut [u8], at: usize, e: Entry) -> usize
-    requires { ⌜ at + 12 ≤ length (now list) ⌝ }
-    ensures { λ r. ⌜ Put (now (list .entry)) at (entryBytes e) (now (list .exit)) r ⌝ }
+// Have so many bytes room for the list? Nothing may be written before this is known.
+fn has_room(first: &[u8], second: &[u8], room: usize) -> bool
+    requires { ⌜ (length (now first) ≡ 640) × (length (now second) ≡ 640) ⌝ }
+    ensures { λ r. ⌜ r ≡ leb (12 * length (differences (now (first .entry)) (now (second .entry)))) room ⌝ }
 {
-    let a = texts::put_word(list, at, e.number);
-    let b = texts::put_word(list, a, e.first);
-    texts::put_word(list, b, e.second)
-}
-
-// The list, at the front of bytes that have room for it.
-fn put_list(first: &[u8], second: &[u8], list: &mut [u8]) -> usize
-    requires { ⌜ (length (now first) ≡ 640) × (length (now second) ≡ 640) × (12 * length (differences (now first) (now second)) ≤ length (now list)) ⌝ }
-    ensures { λ r. ⌜ Put (now (list .entry)) 0 (listBytes (differences (now (first .entry)) (now (second .entry)))) (now (list .exit)) r ⌝ }
-{
-    let mut at: usize = 0;
-    let mut k: usize = 0;
-    while k < IMAGE_WORDS {
-        let x = words::word_at(first, 4 * k);
-        let y = words::word_at(second, 4 * k);
-        if x != y {
-            at = put_entry(
-                list,
-                at,
-                Entry {
-                    number: k as u32,
-                    first: x,
-                    second: y,
-                },
-            );
-        }
-        k += 1;
+    if room >= LONGEST {
+        return true;
     }
-    at
+    12 * count(first, second) <= room
 }
 
-// Any bytes: the list of what differs, or a refusal that writes nothing. The words are gone through twice, since nothing may be
-// written before it is known that all of it fits.
+// Any bytes: the list of what differs, or a refusal that writes nothing.
 pub fn compare(first: &[u8], second: &[u8], list: &mut [u8]) -> u64
     ensures { λ r. ⌜ CompareCall (now (first .entry)) (now (second .entry)) (now (list .entry)) (now (list .exit)) r ⌝ }
 {
     if !(good::good_image(first) & good::good_image(second)) {
         return answers::pack(1, 32, 0);
     }
-    let n = count(first, second);
-    if list.len() < 12 * n {
+    if !has_room(first, second, list.len()) {
         return answers::pack(9, 32, 0);
     }
-    put_list(first, second, list);
-    answers::pack(0, 32, n as u32)
+    let end = put_list(first, second, list);
+    answers::pack(0, 32, (end / 12) as u32)
 }

@@ -1,14 +1,14 @@
-use Prim.Native.Nat.{ℕ, _*_, _≤_}
+use Prim.Native.Nat.{ℕ, _+_, _*_, _/_, _≤_}
 use mathlib.Core.Path.{_≡_, refl, sym, _∙_, ap, ap₂}
 use mathlib.Core.Bool.{true, _&&_}
 use mathlib.Core.List.{List}
 use native.Mathlib.Omega.{arith}
 use lib.ListN.{length}
-use borrow.Author.Tests.{not-true, not-false}
+use borrow.Author.Tests.{not-true, not-false, leb-true, leb-false}
 use Rattle.words.specs.Bytes.{Bytes}
 use Rattle.answers.specs.Answer.{packed}
-use Rattle.compare.specs.Compare.{differences, listBytes}
-use Rattle.compare.proofs.Below.{length-list}
+use Rattle.compare.specs.Compare.{differences}
+use Rattle.compare.proofs.Below.{list-most, length-list}
 use Rattle.compare.proofs.Call.{bothGood, long-first, long-second, call-bad, call-short, call-fits, put-told}
 use borrow.Author.Needs.{needs}
 use Rattle.compare.proofs.compare.Statement.{statement}
@@ -45,14 +45,11 @@ second-bytes c = record { small = λ i. omega (arith, c .before .before .before 
 both-good : (c : tie.Else1) → bothGood (first c) (second c) ≡ true
 both-good c = ap₂ _&&_ (sym (c .before .before .good-image .ensures)) (sym (c .before .good-image2 .ensures)) ∙ not-false _ (c .if1 .left)
 
-count-requires : tie.Need-count-requires
-count-requires c κs =
+has-room-requires : tie.Need-has-room-requires
+has-room-requires c κs =
     let p = first-bytes c in
     let q = second-bytes c in
     (long-first _ _ p q (both-good c), long-second _ _ p q (both-good c))
-
-mul-if2 : tie.Need-mul-if2
-mul-if2 c = search needs
 
 pack-requires-2 : tie.Need-pack-requires-2
 pack-requires-2 c κs = search needs
@@ -60,17 +57,28 @@ pack-requires-2 c κs = search needs
 returns-2 : tie.Need-returns-2
 returns-2 c =
     let d = c .before .before .before in
-    call-short _ _ (first-bytes d) (second-bytes d) _ _ _ (both-good d) (omega (arith, c .before .if2 .taken, c .before .before .count .ensures .0)) (refl, c .pack2 .ensures)
+    let l = leb-false _ _ (sym (c .before .before .has-room .ensures) ∙ not-true _ (c .before .if2 .taken)) in
+    call-short _ _ (first-bytes d) (second-bytes d) _ _ _ (both-good d) l (refl, c .pack2 .ensures)
+
+-- behind the second one: the list fits
+roomy : (c : tie.Else2) → 12 * length (differences (first (c .before .before)) (second (c .before .before))) ≤ length (c .before .before .before .before .before .before .before .before .args .list .now)
+roomy c = leb-true _ _ (sym (c .before .has-room .ensures) ∙ not-false _ (c .if2 .left))
 
 put-list-requires : tie.Need-put-list-requires
 put-list-requires c κs =
     let d = c .before .before .before in
     let p = first-bytes d in
     let q = second-bytes d in
-    (long-first _ _ p q (both-good d), long-second _ _ p q (both-good d), omega (arith, c .before .if2 .left, c .before .before .count .ensures .0))
+    (long-first _ _ p q (both-good d), long-second _ _ p q (both-good d), roomy (c .before))
+
+-- behind the writer: how many entries its place stands for
+counted : (c : tie.After-put-list) → c .put-list .result / 12 ≡ length (differences (first (c .before .before .before .before)) (second (c .before .before .before .before)))
+counted c = let e = c .put-list .ensures .behind in omega (arith, length-list (differences (first (c .before .before .before .before)) (second (c .before .before .before .before))))
 
 cast-pack : tie.Need-cast-pack
-cast-pack c = search needs
+cast-pack c =
+    let d = c .before .before .before .before .before .before in
+    omega (arith, counted (c .before .before), list-most (first d) (second d))
 
 pack-requires-3 : tie.Need-pack-requires-3
 pack-requires-3 c κs = search needs
@@ -80,12 +88,11 @@ same-length c = search needs
 
 returns-3 : tie.Need-returns-3
 returns-3 c =
-    let d = c .before .before .before .before .before .before .before in
-    let n = c .before .before .before .before .before .before .count .ensures .0 in
-    let l : 12 * length (differences (first d) (second d)) ≤ length (d .before .before .before .before .before .before .args .list .now) =
-    omega (arith, c .before .before .before .before .before .if2 .left, n) in
+    let w = c .before .before .before in
+    let d = w .before .before .before .before in
+    let l = roomy (w .before .before) in
     call-fits _ _ (first-bytes d) (second-bytes d) _ _ _ (both-good d) l
-    (put-told _ _ _ _ _ _ (omega (arith, length-list (differences (first d) (second d)))) (c .before .before .before .put-list .ensures) (c .pack3 .ensures ∙ ap (packed 0 32) n))
+    (put-told _ _ _ _ _ _ (omega (arith, length-list (differences (first d) (second d)))) (w .put-list .ensures) (c .pack3 .ensures ∙ ap (packed 0 32) (counted w)))
 
 pub compare-spec : {M : Type 1} → statement M
 compare-spec =
@@ -95,8 +102,7 @@ compare-spec =
     good-image-requires-2
     pack-requires
     returns
-    count-requires
-    mul-if2
+    has-room-requires
     pack-requires-2
     returns-2
     put-list-requires

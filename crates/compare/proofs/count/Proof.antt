@@ -1,11 +1,10 @@
 use Prim.Native.Nat.{ℕ, _+_, _-_, _≤_}
 use mathlib.Core.Path.{_≡_, refl, sym, _∙_, ap}
-use mathlib.Core.List.{[], _∷_}
 use mathlib.Core.Logic.{⊎-elim}
 use native.Mathlib.Omega.{arith}
 use lib.ListN.{length, length-append}
-use Rattle.compare.specs.Compare.{differencesBelow, differences}
-use Rattle.compare.proofs.Below.{turn-same, turn-other}
+use Rattle.compare.specs.Compare.{difference, differencesBelow, differences}
+use Rattle.compare.proofs.Below.{word-same, word-other, below-next}
 use Rattle.compare.proofs.count.Statement.{statement}
 use Rattle.compare.proofs.count.Tie as tie
 
@@ -45,10 +44,13 @@ loop-again c =
     let a = c .before .before .before .before .before .before .before .args in
     let l = c .before .before .before .before .loop in
     let x = c .before .before .word-at .ensures in
-    let y = c .before .word-at2 .ensures in (
+    let y = c .before .word-at2 .ensures in
+    let d = differencesBelow (a .first .now) (a .second .now) in
+    let n : length (d (l .k + 1)) ≡ length (d (l .k)) + length (difference (a .first .now) (a .second .now) (l .k)) =
+    ap length (below-next (a .first .now) (a .second .now) (l .k)) ∙ length-append (d (l .k)) (difference (a .first .now) (a .second .now) (l .k)) in (
       ⊎-elim
-          (λ w. omega (arith, w .1, ap length (turn-other (a .first .now) (a .second .now) (l .k) x y (w .0 .taken)) ∙ length-append (differencesBelow (a .first .now) (a .second .now) (l .k)) (_ ∷ []), l .inv .0))
-          (λ w. w .1 ∙ l .inv .0 ∙ sym (ap length (turn-same (a .first .now) (a .second .now) (l .k) x y (w .0 .left))))
+          (λ w. omega (arith, w .1, n, ap length (word-other (a .first .now) (a .second .now) (l .k) x y (w .0 .taken)), l .inv .0))
+          (λ w. omega (arith, w .1, n, ap length (word-same (a .first .now) (a .second .now) (l .k) x y (w .0 .left)), l .inv .0))
           (c .if1 .came),
       omega arith,
       ⊎-elim (λ w. omega (arith, w .1)) (λ w. omega (arith, w .1)) (c .if1 .came),
