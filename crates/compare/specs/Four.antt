@@ -1,9 +1,9 @@
--- Two and four words compared at once, by which the code passes over what is the same. The rule itself is in Compare.
+-- Four words at once, by which the code passes over what is the same and writes what is not. The rule itself is in Compare.
 use Prim.Native.Nat.{ℕ, _+_}
 use mathlib.Core.Bool.{Bool, _&&_}
-use mathlib.Core.List.{List}
+use mathlib.Core.List.{List, _++_}
 use lib.Dec.{eqb}
-use Rattle.compare.specs.Compare.{imageWord}
+use Rattle.compare.specs.Compare.{imageWord, difference, listBytes}
 
 abbrev pub same : List ℕ → List ℕ → ℕ → Bool
 same a b k = eqb (imageWord a k) (imageWord b k)
@@ -13,3 +13,10 @@ sameTwo a b k = same a b k && same a b (k + 1)
 
 abbrev pub sameFour : List ℕ → List ℕ → ℕ → Bool
 sameFour a b k = sameTwo a b k && sameTwo a b (k + 2)
+
+-- The bytes of what is listed of word k, and of four words from there on.
+abbrev pub oneBytes : List ℕ → List ℕ → ℕ → List ℕ
+oneBytes a b k = listBytes (difference a b k)
+
+abbrev pub fourBytes : List ℕ → List ℕ → ℕ → List ℕ
+fourBytes a b k = oneBytes a b k ++ (oneBytes a b (k + 1) ++ (oneBytes a b (k + 2) ++ oneBytes a b (k + 3)))

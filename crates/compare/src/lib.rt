@@ -4,8 +4,8 @@ ghost use Prim.Native.Nat.{_+_, _*_, _<_, _≤_};
 ghost use lib.Dec.{leb};
 ghost use lib.ListN.{length};
 ghost use Rattle.texts.specs.Text.{Put};
-ghost use Rattle.compare.specs.Compare.{imageWord, difference, differences, entryBytes, listBytes, CompareCall};
-ghost use Rattle.compare.specs.Four.{sameTwo, sameFour};
+ghost use Rattle.compare.specs.Compare.{imageWord, differences, entryBytes, listBytes, CompareCall};
+ghost use Rattle.compare.specs.Four.{sameTwo, sameFour, oneBytes, fourBytes};
 
 const IMAGE_WORDS: usize = 160;
 
@@ -53,8 +53,8 @@ fn put_entry(list: &mut [u8], at: usize, e: Entry) -> usize
 
 // The entry of word k, where it differs.
 fn put_difference(first: &[u8], second: &[u8], k: usize, list: &mut [u8], at: usize) -> usize
-    requires { ⌜ (length (now first) ≡ 640) × (length (now second) ≡ 640) × (k < 160) × (at + length (listBytes (difference (now first) (now second) k)) ≤ length (now list)) ⌝ }
-    ensures { λ r. ⌜ Put (now (list .entry)) at (listBytes (difference (now (first .entry)) (now (second .entry)) k)) (now (list .exit)) r ⌝ }
+    requires { ⌜ (length (now first) ≡ 640) × (length (now second) ≡ 640) × (k < 160) × (at + length (oneBytes (now first) (now second) k) ≤ length (now list)) ⌝ }
+    ensures { λ r. ⌜ Put (now (list .entry)) at (oneBytes (now (first .entry)) (now (second .entry)) k) (now (list .exit)) r ⌝ }
 {
     let x = words::word_at(first, 4 * k);
     let y = words::word_at(second, 4 * k);
@@ -72,7 +72,17 @@ fn put_difference(first: &[u8], second: &[u8], k: usize, list: &mut [u8], at: us
     )
 }
 
-// The list, at the front of bytes that have room for it. Of two images of one run most words are the same: those of a mailbox are
+fn put_four(first: &[u8], second: &[u8], k: usize, list: &mut [u8], at: usize) -> usize
+    requires { ⌜ (length (now first) ≡ 640) × (length (now second) ≡ 640) × (k + 4 ≤ 160) × (at + length (fourBytes (now first) (now second) k) ≤ length (now list)) ⌝ }
+    ensures { λ r. ⌜ Put (now (list .entry)) at (fourBytes (now (first .entry)) (now (second .entry)) k) (now (list .exit)) r ⌝ }
+{
+    let a = put_difference(first, second, k, list, at);
+    let b = put_difference(first, second, k + 1, list, a);
+    let c = put_difference(first, second, k + 2, list, b);
+    put_difference(first, second, k + 3, list, c)
+}
+
+// The list, at the front of bytes that have room for it. Of two images of one run most words are the same: four of them are
 // passed over at once.
 fn put_list(first: &[u8], second: &[u8], list: &mut [u8]) -> usize
     requires { ⌜ (length (now first) ≡ 640) × (length (now second) ≡ 640) × (12 * length (differences (now first) (now second)) ≤ length (now list)) ⌝ }
@@ -81,12 +91,10 @@ fn put_list(first: &[u8], second: &[u8], list: &mut [u8]) -> usize
     let mut at: usize = 0;
     let mut k: usize = 0;
     while k < IMAGE_WORDS {
-        if k % 4 == 0 && same_four(first, second, k) {
-            k += 4;
-        } else {
-            at = put_difference(first, second, k, list, at);
-            k += 1;
+        if !same_four(first, second, k) {
+            at = put_four(first, second, k, list, at);
         }
+        k += 4;
     }
     at
 }
