@@ -1,4 +1,7 @@
-/* Document 01 in plain C. "D12" and the like are entries of docs/DECISIONS.md. */
+/*
+ * Document 01, and the comparison of two images from document 02, in plain C. "D12" and the like are
+ * entries of docs/DECISIONS.md.
+ */
 #include "reference.h"
 
 #include <stdbool.h>
@@ -68,7 +71,7 @@ static inline uint64_t get_double(const uint8_t *bytes)
 
 /* ---- answers: refusal + 256 * mailbox + 65536 * count */
 
-enum { BAD_IMAGE = 1, UNKNOWN, ASLEEP, NOT_ALLOWED, BUSY, LOCKED, NOTHING_SENT };
+enum { BAD_IMAGE = 1, UNKNOWN, ASLEEP, NOT_ALLOWED, BUSY, LOCKED, NOTHING_SENT, NO_ROOM = 9 };
 
 #define ACCEPTED ((uint64_t)NO_MAILBOX << 8)
 
@@ -709,7 +712,7 @@ static uint64_t reset(uint8_t *image, struct event e)
     return ACCEPTED;
 }
 
-/* ---- the three functions */
+/* ---- fresh, step and read */
 
 uint64_t reference_fresh(uint8_t *image, size_t image_len)
 {
@@ -765,6 +768,60 @@ uint64_t reference_read(const uint8_t *image, size_t image_len, uint32_t number)
     if (asleep(image))
         return number == 32 ? 0x0001F040 : 0;
     return number == 32 ? gsr(image) : get(image, MC + number);
+}
+
+/* ---- comparing: an entry is three words, the number of a word and what the two images have there */
+
+#define IMAGE_WORDS (IMAGE_BYTES / 4)
+#define ENTRY_WORDS 3
+#define ENTRY_BYTES (4 * ENTRY_WORDS)
+
+/* The entry of a word. That of an equal one is not passed over, so that the next one takes its place. */
+static inline uint32_t *list_word(uint32_t *at, uint32_t number, uint32_t first, uint32_t second)
+{
+    at[0] = number;
+    at[1] = first;
+    at[2] = second;
+    return at + (first != second ? ENTRY_WORDS : 0);
+}
+
+static inline uint32_t *list_two(uint32_t *at, uint32_t number, uint64_t first, uint64_t second)
+{
+    at = list_word(at, number, (uint32_t)first, (uint32_t)second);
+    return list_word(at, number + 1, (uint32_t)(first >> 32), (uint32_t)(second >> 32));
+}
+
+/* Four words at once are looked at: of two images of one run most are equal. Answers how many entries. */
+static size_t list_differences(uint32_t *entries, const uint8_t *first, const uint8_t *second)
+{
+    uint32_t *at = entries;
+
+    for (unsigned n = 0; n < IMAGE_WORDS; n += 4) {
+        uint64_t first_low = get_double(first + 4 * n), first_high = get_double(first + 4 * n + 8);
+        uint64_t second_low = get_double(second + 4 * n), second_high = get_double(second + 4 * n + 8);
+
+        if (((first_low ^ second_low) | (first_high ^ second_high)) == 0)
+            continue;
+        at = list_two(at, n, first_low, second_low);
+        at = list_two(at, n + 2, first_high, second_high);
+    }
+    return (size_t)(at - entries) / ENTRY_WORDS;
+}
+
+/* The list is made apart from the caller's, which may not be written before it is known to fit. */
+uint64_t reference_compare(const uint8_t *first, size_t first_len, const uint8_t *second,
+                           size_t second_len, uint8_t *list, size_t list_len)
+{
+    uint32_t entries[ENTRY_WORDS * (IMAGE_WORDS + 1)]; /* and room for an equal word behind them */
+    size_t count;
+
+    if (!good(first, first_len) || !good(second, second_len))
+        return refused(BAD_IMAGE);
+    count = list_differences(entries, first, second);
+    if (list_len < ENTRY_BYTES * count)
+        return refused(NO_ROOM);
+    memcpy(list, entries, ENTRY_BYTES * count);
+    return found(NO_MAILBOX, (uint32_t)count);
 }
 
 /* ---- traces: three sections, each a count of two bytes and as many events */
