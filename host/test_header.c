@@ -40,9 +40,13 @@ static void sizes(void)
     const char longest_listing[] = "step code mailbox count\n" "end 3000\n";
 
     same_number("the image", FROSTSORREL_IMAGE_BYTES, 16 * FROSTSORREL_MAILBOXES + 4 * 32);
+    same_number("its words", FROSTSORREL_IMAGE_WORDS, 4 * FROSTSORREL_MAILBOXES + 32);
     same_number("the longest trace", FROSTSORREL_TRACE_BYTES,
                 3 * (2 + FROSTSORREL_EVENT_BYTES * FROSTSORREL_SECTION_EVENTS));
     same_number("room for any listing", FROSTSORREL_LISTING_BYTES, strlen(longest_listing) + 3000 * 13);
+    same_number("an entry", FROSTSORREL_ENTRY_BYTES, 4 + 4 + 4);
+    same_number("room for any list of differences", FROSTSORREL_DIFFERENCE_BYTES,
+                FROSTSORREL_ENTRY_BYTES * FROSTSORREL_IMAGE_WORDS);
 }
 
 /* ---- identifiers */
@@ -131,11 +135,30 @@ static void words(void)
     same_number("a word's top bit", frostsorrel_mailbox_word(image, 0, 0), 0xFF020100);
 }
 
+/* ---- a list of two entries, by hand: word 3 of mailbox 31, then TSO */
+
+static void entries(void)
+{
+    static const uint8_t list[] = {
+        127, 0, 0, 0, 0x11, 0x22, 0x33, 0x84, 0x55, 0x66, 0x77, 0xF8,
+        155, 0, 0, 0, 0x00, 0x00, 0x00, 0x00, 0x01, 0x00, 0x00, 0x00,
+    };
+
+    same_number("the number of entry 0", frostsorrel_entry_number(list, 0), 127);
+    same_number("its first content", frostsorrel_entry_first(list, 0), 0x84332211);
+    same_number("its second content", frostsorrel_entry_second(list, 0), 0xF8776655);
+    same_number("the number of entry 1", frostsorrel_entry_number(list, 1), 155);
+    same_number("its first content", frostsorrel_entry_first(list, 1), 0);
+    same_number("its second content", frostsorrel_entry_second(list, 1), 1);
+}
+
 static void answers(void)
 {
     same_number("the refusal", frostsorrel_answer_refusal(0x200507), 7);
     same_number("the mailbox", frostsorrel_answer_mailbox(0x200507), 5);
     same_number("the count", frostsorrel_answer_count(0x200507), 0x20);
+    same_number("no room", frostsorrel_answer_refusal(0x2009), FROSTSORREL_NO_ROOM);
+    same_number("a list of 155 entries", frostsorrel_answer_count(0x9B2000), 155);
     same_number("a read's value", frostsorrel_read_value(0x2FFFFFFFFu), 0xFFFFFFFF);
     same_number("a read's refusal", frostsorrel_read_refusal(0x2FFFFFFFFu), 2);
 }
@@ -185,10 +208,11 @@ static void names(void)
     static const char *const outcomes[] = {"sent", "arbitration lost", "error"};
     static const char *const modes[] = {"normal", "configuration", "sleep", "suspend", "none"};
     static const char *const refusals[] = {"accepted", "bad image", "unknown", "asleep", "not allowed",
-                                           "busy", "locked", "slot empty", "bad trace"};
+                                           "busy", "locked", "slot empty", "bad trace", "no room"};
     static const char *const in_reason[] = {"taken", "the image is not", "there is no such", "while the model sleeps",
                                             "the value is not allowed", "being sent, or waits", "in this mode",
-                                            "an outcome came while nothing", "three sections"};
+                                            "an outcome came while nothing", "three sections",
+                                            "does not fit"};
 
     names_are("operation", frostsorrel_operation_name, operations, COUNT(operations));
     names_are("outcome", frostsorrel_outcome_name, outcomes, COUNT(outcomes));
@@ -233,6 +257,7 @@ int main(int argc, char **argv)
     identifiers();
     events();
     words();
+    entries();
     answers();
     bits();
     names();
