@@ -4,7 +4,9 @@
  * Each step draws an image and an event, hands both to both, and compares the answers and every byte,
  * those around the image too. The images: what a run from fresh has reached; good ones built word by
  * word, and what a few events make of them; either with one clause broken; any bytes; other lengths.
- * Registers are read and models made fresh along the way.
+ * Registers are read and models made fresh along the way, and pairs of images compared: equal ones, such
+ * that differ in one word or in nearly all, two of a run, bad ones on either side, with too little room for
+ * the list, just enough, and more.
  */
 #include <stdlib.h>
 
@@ -14,10 +16,13 @@
 #include "image.h"
 #include "reference.h"
 
-#define GUARD 13 /* bytes around the image; odd, so that it does not stand at an even address */
+#define GUARD 13 /* bytes around an image or a list; odd, so that it does not stand at an even address */
 #define LONGEST_IMAGE (2 * BYTES)
 #define ARENA (LONGEST_IMAGE + 2 * GUARD)
+#define LONGEST_LIST (2 * FROSTSORREL_DIFFERENCE_BYTES)
+#define LIST_ARENA (LONGEST_LIST + 2 * GUARD)
 #define MOST_EXPLAINED 3
+#define MOST_WORDS 20 /* of an image, in an explanation */
 
 struct trial {
     uint8_t image[LONGEST_IMAGE], event[LONGEST_EVENT];
@@ -101,20 +106,23 @@ static void shrink(struct trial *t)
     }
 }
 
-static void print_result(const char *who, const struct result *r)
+static void print_answer(const char *who, uint64_t answer)
 {
     printf("    %s answers refusal %u, mailbox %u, count %u\n", who,
-           (unsigned)frostsorrel_answer_refusal(r->answer),
-           (unsigned)frostsorrel_answer_mailbox(r->answer),
-           (unsigned)frostsorrel_answer_count(r->answer));
+           (unsigned)frostsorrel_answer_refusal(answer), (unsigned)frostsorrel_answer_mailbox(answer),
+           (unsigned)frostsorrel_answer_count(answer));
 }
 
 static void print_words(const char *what, const uint8_t *first, const uint8_t *second)
 {
+    int differ = 0;
+
     for (int word = 0; word < WORDS; word++)
-        if (word_of(first, word) != word_of(second, word))
+        if (word_of(first, word) != word_of(second, word) && ++differ <= MOST_WORDS)
             printf("    %s: %s 0x%08lX, 0x%08lX\n", what, word_name(word),
                    (unsigned long)word_of(first, word), (unsigned long)word_of(second, word));
+    if (differ > MOST_WORDS)
+        printf("    %s: and %d words more\n", what, differ - MOST_WORDS);
 }
 
 static void explain(struct trial t)
@@ -133,8 +141,8 @@ static void explain(struct trial t)
     put_fresh(fresh);
     if (t.image_len == BYTES)
         print_words("image, and fresh", t.image, fresh);
-    print_result("library", &ours);
-    print_result("reference", &theirs);
+    print_answer("library", ours.answer);
+    print_answer("reference", theirs.answer);
     if (t.image_len == BYTES)
         print_words("library, and reference", ours.arena + GUARD, theirs.arena + GUARD);
 }
@@ -225,6 +233,294 @@ static void compare_fresh(unsigned long number)
     check(equal(&ours, &theirs), "step %lu: fresh of %lu bytes", number, (unsigned long)len);
 }
 
+/* ---- two images compared */
+
+struct pair {
+    uint8_t first[LONGEST_IMAGE], second[LONGEST_IMAGE];
+    uint8_t list[LIST_ARENA]; /* what stands there before the call */
+    size_t first_len, second_len, list_len;
+    int one_image; /* two equal images are one, handed over twice */
+};
+
+/* What one of the two made of a pair. */
+struct comparison {
+    uint8_t first[ARENA], second[ARENA], list[LIST_ARENA];
+    uint64_t answer;
+};
+
+typedef uint64_t compare_function(const uint8_t *, size_t, const uint8_t *, size_t, uint8_t *, size_t);
+
+static struct comparison comparison_of(const struct pair *p, compare_function *compare)
+{
+    struct comparison c;
+
+    memset(c.first, 0xA5, ARENA);
+    memset(c.second, 0xA5, ARENA);
+    memcpy(c.first + GUARD, p->first, p->first_len);
+    memcpy(c.second + GUARD, p->second, p->second_len);
+    memcpy(c.list, p->list, LIST_ARENA);
+    c.answer = compare(c.first + GUARD, p->first_len, (p->one_image ? c.first : c.second) + GUARD,
+                       p->second_len, c.list + GUARD, p->list_len);
+    return c;
+}
+
+static int equal_comparisons(const struct comparison *a, const struct comparison *b)
+{
+    return a->answer == b->answer && memcmp(a->list, b->list, LIST_ARENA) == 0 &&
+           memcmp(a->first, b->first, ARENA) == 0 && memcmp(a->second, b->second, ARENA) == 0;
+}
+
+static int compared_differently(const struct pair *p)
+{
+    struct comparison ours = comparison_of(p, frostsorrel_compare);
+    struct comparison theirs = comparison_of(p, reference_compare);
+
+    return !equal_comparisons(&ours, &theirs);
+}
+
+/* Kept where the two still disagree, in as much room or in that of one entry less. */
+static int try_word(struct pair *p, int word, uint32_t first, uint32_t second)
+{
+    struct pair old = *p;
+
+    if (word_of(p->first, word) == first && word_of(p->second, word) == second)
+        return 0;
+    put(p->first, word, first);
+    put(p->second, word, second);
+    if (compared_differently(p))
+        return 1;
+    p->list_len -= p->list_len < FROSTSORREL_ENTRY_BYTES ? 0 : FROSTSORREL_ENTRY_BYTES;
+    if (compared_differently(p))
+        return 1;
+    *p = old;
+    return 0;
+}
+
+/* One byte all over the list: what was written there can then be told from what stood there. */
+static void try_plain_list(struct pair *p)
+{
+    struct pair old = *p;
+
+    memset(p->list, 0xA5, LIST_ARENA);
+    if (!compared_differently(p))
+        *p = old;
+}
+
+/* Words as a fresh image has them in both, or else equal in both. */
+static void shrink_pair(struct pair *p)
+{
+    uint8_t fresh[BYTES];
+    int changed = p->first_len == BYTES && p->second_len == BYTES;
+
+    try_plain_list(p);
+    put_fresh(fresh);
+    while (changed) {
+        changed = 0;
+        for (int word = 0; word < WORDS; word++) {
+            uint32_t usual = word_of(fresh, word), first = word_of(p->first, word);
+
+            changed |= try_word(p, word, usual, usual) || try_word(p, word, first, first);
+        }
+    }
+}
+
+/* Bytes are counted from the first that was handed over: below 0 and past the length are the guards. */
+static void print_first_byte(const char *what, const uint8_t *ours, const uint8_t *theirs, size_t size)
+{
+    size_t at = 0;
+
+    while (at < size && ours[at] == theirs[at])
+        at++;
+    if (at < size)
+        printf("    %s, byte %ld: library 0x%02X, reference 0x%02X\n", what, (long)at - GUARD, ours[at],
+               theirs[at]);
+}
+
+static void explain_pair(struct pair p)
+{
+    struct comparison ours, theirs;
+    uint8_t fresh[BYTES];
+
+    shrink_pair(&p);
+    ours = comparison_of(&p, frostsorrel_compare);
+    theirs = comparison_of(&p, reference_compare);
+    printf("    %s of %lu and %lu bytes, a list of %lu\n", p.one_image ? "one image twice," : "images",
+           (unsigned long)p.first_len, (unsigned long)p.second_len, (unsigned long)p.list_len);
+    put_fresh(fresh);
+    if (p.first_len == BYTES)
+        print_words("first, and fresh", p.first, fresh);
+    if (p.first_len == BYTES && p.second_len == BYTES)
+        print_words("first, and second", p.first, p.second);
+    print_answer("library", ours.answer);
+    print_answer("reference", theirs.answer);
+    print_first_byte("list", ours.list, theirs.list, LIST_ARENA);
+    print_first_byte("first image", ours.first, theirs.first, ARENA);
+    print_first_byte("second image", ours.second, theirs.second, ARENA);
+}
+
+static int is_good(const uint8_t *image)
+{
+    return frostsorrel_read_refusal(reference_read(image, BYTES, FROSTSORREL_GSR)) == 0;
+}
+
+/* Another content of a word of a good image, if one of those tried leaves it good. */
+static void vary(uint8_t *image, int word)
+{
+    uint32_t old = word_of(image, word);
+
+    for (int tries = 0; tries < 8; tries++) {
+        put(image, word, old ^ 1u << draw(32));
+        if (is_good(image))
+            return;
+    }
+    put(image, word, old);
+}
+
+static void vary_some(uint8_t *image, uint32_t count)
+{
+    for (; count > 0; count--)
+        vary(image, (int)draw(WORDS));
+}
+
+/*
+ * As unlike as can be, or nearly. Two good images never differ in all 160 words, and 155 are the most: words
+ * 28 to 31 are always 0, and TRR, mode and recovery count cannot all differ. TRR needs a filled slot, a
+ * recovery count needs bus off; no image has both, and each of them is in normal mode.
+ */
+static void vary_equal(uint8_t *image, const uint8_t *other)
+{
+    for (int word = 0; word < WORDS; word++)
+        if (word_of(image, word) == word_of(other, word))
+            vary(image, word);
+}
+
+static void draw_good_pair(uint8_t *first, uint8_t *second)
+{
+    uint8_t event[LONGEST_EVENT];
+    uint32_t kind = draw(7);
+    size_t len;
+
+    memcpy(first, draw(2) ? reached : built, BYTES);
+    memcpy(second, first, BYTES);
+    switch (kind) {
+    case 0: break; /* equal */
+    case 1: vary_some(second, 1); break;
+    case 2: vary_some(second, 2 + draw(8)); break;
+    case 3: vary_some(second, draw(2 * WORDS)); break;
+    case 4: /* the next one of a run */
+        len = likely_event(event, first);
+        reference_step(second, BYTES, event, len);
+        break;
+    case 5: good_image(second); break;
+    default:
+        good_image(second);
+        vary_equal(second, first);
+    }
+}
+
+/* Answers the image's length. */
+static size_t make_bad(uint8_t *image)
+{
+    switch (draw(4)) {
+    case 0: draw_bytes(image, BYTES); return BYTES;
+    case 1: return other_length();
+    default: spoil(image); return BYTES;
+    }
+}
+
+/* One pair in three: its first image, its second, both, or both alike. */
+static void spoil_pair(struct pair *p)
+{
+    switch (draw(12)) {
+    case 0: p->first_len = make_bad(p->first); break;
+    case 1: p->second_len = make_bad(p->second); break;
+    case 2:
+        p->first_len = make_bad(p->first);
+        p->second_len = make_bad(p->second);
+        break;
+    case 3:
+        p->first_len = p->second_len = make_bad(p->first);
+        memcpy(p->second, p->first, LONGEST_IMAGE);
+        break;
+    default: break;
+    }
+}
+
+/* Where the whole list has this many bytes: none, too few, just enough, more, and more than any list has. */
+static size_t draw_room(size_t whole)
+{
+    switch (draw(8)) {
+    case 0: return 0;
+    case 1: return draw((uint32_t)whole + 1);
+    case 2: return whole - (whole > 0);
+    case 3: case 4: return whole;
+    case 5: return whole + 1 + draw(2 * FROSTSORREL_ENTRY_BYTES);
+    case 6: return FROSTSORREL_DIFFERENCE_BYTES;
+    default: return LONGEST_LIST;
+    }
+}
+
+static size_t list_bytes(const struct pair *p)
+{
+    size_t bytes = 0;
+
+    for (int word = 0; word < WORDS; word++)
+        if (word_of(p->first, word) != word_of(p->second, word))
+            bytes += FROSTSORREL_ENTRY_BYTES;
+    return bytes;
+}
+
+static void draw_pair(struct pair *p)
+{
+    draw_bytes(p->first, LONGEST_IMAGE);
+    draw_bytes(p->second, LONGEST_IMAGE);
+    draw_bytes(p->list, LIST_ARENA);
+    draw_good_pair(p->first, p->second);
+    p->first_len = p->second_len = BYTES;
+    spoil_pair(p);
+    p->list_len = draw_room(list_bytes(p));
+    p->one_image = p->first_len == p->second_len && memcmp(p->first, p->second, p->first_len) == 0 && draw(2);
+}
+
+/* The numbers rise, nothing equal is listed, and the entries make the second image of the first. */
+static int leads_over(const struct pair *p, const uint8_t *list, uint64_t count)
+{
+    uint8_t image[BYTES];
+    uint32_t lowest = 0;
+
+    if (count > p->list_len / FROSTSORREL_ENTRY_BYTES)
+        return 0;
+    memcpy(image, p->first, BYTES);
+    for (size_t i = 0; i < count; i++) {
+        uint32_t word = frostsorrel_entry_number(list, i), first = frostsorrel_entry_first(list, i);
+        uint32_t second = frostsorrel_entry_second(list, i);
+
+        if (word < lowest || word >= WORDS || first == second || first != word_of(image, (int)word))
+            return 0;
+        put(image, (int)word, second);
+        lowest = word + 1;
+    }
+    return memcmp(image, p->second, BYTES) == 0;
+}
+
+static void compare_images(unsigned long number)
+{
+    static int explained;
+    struct pair p;
+    struct comparison ours, theirs;
+
+    draw_pair(&p);
+    ours = comparison_of(&p, frostsorrel_compare);
+    theirs = comparison_of(&p, reference_compare);
+    check(equal_comparisons(&ours, &theirs), "step %lu: library and reference compare two images differently",
+          number);
+    if (!equal_comparisons(&ours, &theirs) && explained++ < MOST_EXPLAINED)
+        explain_pair(p);
+    if (frostsorrel_answer_refusal(ours.answer) == FROSTSORREL_ACCEPTED)
+        check(leads_over(&p, ours.list + GUARD, frostsorrel_answer_count(ours.answer)),
+              "step %lu: the list does not make the second image of the first", number);
+}
+
 static unsigned long argument(int argc, char **argv, int at, unsigned long usual)
 {
     return at < argc ? strtoul(argv[at], NULL, 10) : usual;
@@ -245,6 +541,8 @@ int main(int argc, char **argv)
             compare_read(number);
         if (draw(100) == 0)
             compare_fresh(number);
+        if (draw(4) == 0)
+            compare_images(number);
     }
     snprintf(name, sizeof name, "host compare, %lu steps, seed %lu", steps, seed);
     return report(name);
