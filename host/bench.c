@@ -1,9 +1,10 @@
 /*
  * The speed of the library beside that of the plain C: bench [ROUNDS [SEED]].
  *
- * A stream is many runs, each an image and the events that follow. All of it is drawn before the clock
- * starts, and both sides get the same. A round lets each side step through the whole stream; the best
- * round counts. Answers and images must come out equal, so that no wrong work is measured.
+ * A stream is many runs, each an image and the events that follow, or many pairs of images to compare. All
+ * of it is drawn before the clock starts, and both sides get the same. A round lets each side go through the
+ * whole stream; the best round counts. Answers, images and lists must come out equal, so that no wrong work
+ * is measured.
  */
 #include <stdlib.h>
 #include <time.h>
@@ -17,6 +18,7 @@
 #define RUNS 64
 #define LENGTH 512 /* events in a run */
 #define STEPS (RUNS * LENGTH)
+#define PAIRS 512 /* of images; a round compares each of them STEPS / PAIRS times */
 #define MOST_ROUNDS 1000
 
 struct stream {
@@ -32,9 +34,22 @@ struct side {
     double best; /* nanoseconds a step */
 };
 
+struct pairs {
+    uint8_t first[PAIRS][BYTES], second[PAIRS][BYTES];
+};
+
+/* What a side makes of the pairs. */
+struct lists {
+    uint8_t lists[PAIRS][FROSTSORREL_DIFFERENCE_BYTES];
+    uint64_t answers[PAIRS];
+    double best; /* nanoseconds a comparison */
+};
+
 typedef uint64_t step_function(uint8_t *, size_t, const uint8_t *, size_t);
+typedef uint64_t compare_function(const uint8_t *, size_t, const uint8_t *, size_t, uint8_t *, size_t);
 typedef void image_function(uint8_t *image);
 typedef size_t event_function(uint8_t *event, const uint8_t *image);
+typedef void pairs_function(struct pairs *p);
 
 /* ---- the streams */
 
@@ -130,12 +145,53 @@ static void draw_stream(struct stream *s, image_function *first, event_function 
     }
 }
 
+/* An image and the next one of its run, from eight runs: few words differ, or none. */
+static void draw_neighbours(struct pairs *p)
+{
+    uint8_t image[BYTES], event[LONGEST_EVENT];
+
+    for (size_t i = 0; i < PAIRS; i++) {
+        size_t len;
+
+        if (i % (PAIRS / 8) == 0)
+            good_image(image);
+        memcpy(p->first[i], image, BYTES);
+        len = likely_event(event, image);
+        reference_step(image, BYTES, event, len);
+        memcpy(p->second[i], image, BYTES);
+    }
+}
+
+/* Good images that have nothing to do with each other: nearly all words differ. */
+static void draw_strangers(struct pairs *p)
+{
+    for (size_t i = 0; i < PAIRS; i++) {
+        good_image(p->first[i]);
+        good_image(p->second[i]);
+    }
+}
+
 /* ---- the clock */
 
 /* Processor time, which other programs on the machine disturb less than the time of day. */
 static double seconds(void)
 {
     return (double)clock() / CLOCKS_PER_SEC;
+}
+
+/* The best round is 0 before the first. */
+static void keep_best(double *best, double began)
+{
+    double taken = (seconds() - began) * 1e9 / STEPS;
+
+    if (*best == 0 || taken < *best)
+        *best = taken;
+}
+
+static double print_ratio(const char *name, double ours, double theirs)
+{
+    printf("%-12s %8.1f %8.1f %8.3f\n", name, ours, theirs, ours / theirs);
+    return ours / theirs;
 }
 
 static void run_stream(const struct stream *s, struct side *side, step_function *step)
@@ -146,14 +202,12 @@ static void run_stream(const struct stream *s, struct side *side, step_function 
 
 static void time_round(const struct stream *s, struct side *side, step_function *step)
 {
-    double began, taken;
+    double began;
 
     memcpy(side->images, s->images, sizeof side->images);
     began = seconds();
     run_stream(s, side, step);
-    taken = (seconds() - began) * 1e9 / STEPS;
-    if (side->best == 0 || taken < side->best)
-        side->best = taken;
+    keep_best(&side->best, began);
 }
 
 static void check_equal(const char *name, const struct side *ours, const struct side *theirs)
@@ -177,8 +231,51 @@ static double measure(const char *name, image_function *first, event_function *n
         time_round(&s, &theirs, reference_step);
         check_equal(name, &ours, &theirs);
     }
-    printf("%-12s %8.1f %8.1f %8.3f\n", name, ours.best, theirs.best, ours.best / theirs.best);
-    return ours.best / theirs.best;
+    return print_ratio(name, ours.best, theirs.best);
+}
+
+static void compare_pairs(const struct pairs *p, struct lists *l, compare_function *compare)
+{
+    for (size_t i = 0; i < STEPS; i++) {
+        size_t pair = i % PAIRS;
+
+        l->answers[pair] = compare(p->first[pair], BYTES, p->second[pair], BYTES, l->lists[pair],
+                                   FROSTSORREL_DIFFERENCE_BYTES);
+    }
+}
+
+static void time_comparisons(const struct pairs *p, struct lists *l, compare_function *compare)
+{
+    double began;
+
+    memset(l->lists, 0xA5, sizeof l->lists);
+    began = seconds();
+    compare_pairs(p, l, compare);
+    keep_best(&l->best, began);
+}
+
+static void check_lists(const char *name, const struct lists *ours, const struct lists *theirs)
+{
+    check(memcmp(ours->answers, theirs->answers, sizeof ours->answers) == 0,
+          "%s: library and plain C answer differently", name);
+    check(memcmp(ours->lists, theirs->lists, sizeof ours->lists) == 0,
+          "%s: library and plain C leave different lists", name);
+}
+
+/* The same for pairs of images. */
+static double measure_pairs(const char *name, pairs_function *draw_pairs, unsigned long rounds)
+{
+    static struct pairs p;
+    static struct lists ours, theirs;
+
+    draw_pairs(&p);
+    ours.best = theirs.best = 0;
+    for (unsigned long round = 0; round < rounds; round++) {
+        time_comparisons(&p, &ours, frostsorrel_compare);
+        time_comparisons(&p, &theirs, reference_compare);
+        check_lists(name, &ours, &theirs);
+    }
+    return print_ratio(name, ours.best, theirs.best);
 }
 
 static unsigned long argument(int argc, char **argv, int at, unsigned long usual)
@@ -191,17 +288,17 @@ static void say_where(unsigned long rounds, unsigned long seed)
 {
     const char *machine = getenv("EMULATED_ON");
 
-    printf("%d steps a round, best of %lu rounds, seed %lu\n", STEPS, rounds, seed);
+    printf("%d steps or comparisons a round, best of %lu rounds, seed %lu\n", STEPS, rounds, seed);
     if (machine)
         printf("both run under the emulator for x86-64 on %s: these are not times of an x86-64 machine\n",
                machine);
-    printf("nanoseconds a step: ours, plain C at -O2, and ours / plain C\n");
+    printf("nanoseconds a step or a comparison: ours, plain C at -O2, and ours / plain C\n");
 }
 
 int main(int argc, char **argv)
 {
     unsigned long rounds = argument(argc, argv, 1, 15), seed = argument(argc, argv, 2, 1);
-    double ratios[3], worst = 0;
+    double ratios[5], worst = 0;
 
     if (rounds == 0 || rounds > MOST_ROUNDS)
         rounds = MOST_ROUNDS;
@@ -210,7 +307,9 @@ int main(int argc, char **argv)
     ratios[0] = measure("frame-heavy", receiving_image, receiving_event, rounds);
     ratios[1] = measure("sending", sending_image, sending_event, rounds);
     ratios[2] = measure("mixed", good_image, likely_event, rounds);
-    for (int i = 0; i < 3; i++)
+    ratios[3] = measure_pairs("few differ", draw_neighbours, rounds);
+    ratios[4] = measure_pairs("most differ", draw_strangers, rounds);
+    for (int i = 0; i < 5; i++)
         worst = ratios[i] > worst ? ratios[i] : worst;
     printf("worst ratio %26.3f\n", worst);
     return report("host bench");
