@@ -2,12 +2,17 @@
  * The report on drawn traces and on any bytes: test_report TRACE..
  *
  * Each trace is told as it is, and with some of its bytes changed; random bytes are told as well. The books must balance
- * and agree with the image, every frame that came to nobody and every refusal must be told, each refusal must have a
- * reason that fits it, and so must each frame that no mailbox took.
+ * and agree with the image, every frame that came to nobody, every refusal and every word that changed must be told,
+ * each refusal must have a reason that fits it, and so must each frame that no mailbox took.
  * host/test_sanitized runs it under the compiler's sanitizers, on the machine's own processor.
  */
+#define _XOPEN_SOURCE 700 /* fork and waitpid beside C99 */
+
+#include <stdio.h>
 #include <stdlib.h>
 #include <string.h>
+#include <sys/wait.h>
+#include <unistd.h>
 
 #include "check.h"
 #include "command/report.h"
@@ -149,6 +154,80 @@ static void check_losses(const struct run *r, const struct text *text, const str
     text_free(&shown);
 }
 
+/* ---- every word that changes is told, and no other */
+
+/* A pen that lays nothing out: it holds what is told of each row of steps to the images before and behind it. */
+struct counter {
+    struct pen pen; /* the first member, so that a pen of this kind is a counter */
+    const struct run *run;
+    const char *name;
+    int first, last, changed, nothing;
+};
+
+static void count_step(struct pen *p, int first, int last, const char *event, const char *answer)
+{
+    struct counter *c = (struct counter *)p;
+
+    (void)event;
+    (void)answer;
+    c->first = first;
+    c->last = last;
+    c->changed = c->nothing = 0;
+}
+
+static void count_detail(struct pen *p, enum kind kind, const char *words, const char *numbers)
+{
+    struct counter *c = (struct counter *)p;
+
+    (void)words;
+    (void)numbers;
+    c->changed += kind == CHANGED;
+    c->nothing += kind == NOTHING;
+}
+
+static void count_step_done(struct pen *p)
+{
+    struct counter *c = (struct counter *)p;
+    const uint8_t *before = c->run->image[c->first - 1], *after = c->run->image[c->last];
+    int differ = 0, refused = refusal_of(c->run, c->first) != FROSTSORREL_ACCEPTED;
+
+    for (int at = 0; at < FROSTSORREL_IMAGE_BYTES; at += 4)
+        differ += memcmp(before + at, after + at, 4) != 0;
+    check(c->changed == differ, "%s, step %d: %d words differ, and %d are told", c->name, c->first, differ,
+          c->changed);
+    check(c->nothing == (differ == 0 && !refused), "%s, step %d: %d words differ; that nothing changes is told %d times",
+          c->name, c->first, differ, c->nothing);
+}
+
+static void check_changes(const struct run *r, const char *name)
+{
+    struct counter c = {{{0}, 0, 0, 0, 0, count_step, count_detail, count_step_done}, r, name, 0, 0, 0, 0};
+
+    tell_steps(&c.pen, r);
+}
+
+/* A comparison that the library refuses ends the program: it must not pass for two equal images. */
+static void check_bad_image(void)
+{
+    static uint8_t images[2][FROSTSORREL_IMAGE_BYTES]; /* zeros are not good: mailbox 0 is in the slot, unasked */
+    struct run r = {.image = images};
+    struct changes c;
+    int status = 0;
+    pid_t child;
+
+    fflush(stdout);
+    child = fork();
+    if (child == 0) {
+        if (freopen("/dev/null", "w", stderr))
+            changes_between(&r, 0, 1, &c);
+        _exit(COMMAND_DONE);
+    }
+    check(child > 0 && waitpid(child, &status, 0) == child, "no second process");
+    check(WIFEXITED(status) && WEXITSTATUS(status) == COMMAND_DIFFERS, "a refused comparison is passed over");
+}
+
+/* ---- traces */
+
 static void check_told(const struct run *r, const char *name)
 {
     int refused = check_refusals(r, name);
@@ -157,6 +236,7 @@ static void check_told(const struct run *r, const char *name)
     for (int k = 1; k <= r->steps; k++)
         check_idle(r, k, name);
     check_missed(r, name);
+    check_changes(r, name);
     write_text(&text, r, name);
     write_page(&page, r, name);
     check_losses(r, &text, &page, OVERWRITTEN, "LOST", "\"mark lost\"", name);
@@ -237,6 +317,7 @@ static void check_any_image(void)
 int main(int argc, char **argv)
 {
     seed_generator(1);
+    check_bad_image();
     for (int i = 1; i < argc; i++)
         check_file(argv[i]);
     for (int i = 0; i < 2000; i++)

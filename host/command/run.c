@@ -110,3 +110,17 @@ uint32_t refusal_of(const struct run *r, int step)
 {
     return frostsorrel_answer_refusal(r->step[step].answer);
 }
+
+void changes_between(const struct run *r, int from, int to, struct changes *into)
+{
+    uint64_t answer = frostsorrel_compare(r->image[from], FROSTSORREL_IMAGE_BYTES, r->image[to],
+                                          FROSTSORREL_IMAGE_BYTES, into->list, sizeof into->list);
+    uint32_t refusal = frostsorrel_answer_refusal(answer);
+
+    if (refusal != FROSTSORREL_ACCEPTED) {
+        complain("a fault: the library does not compare steps %d and %d: refusal %lu, %s", from, to, wide(refusal),
+                 frostsorrel_refusal_reason(refusal));
+        exit(COMMAND_DIFFERS); /* nothing is written before all of it is there */
+    }
+    into->count = (size_t)frostsorrel_answer_count(answer);
+}

@@ -36,4 +36,16 @@ void free_run(struct run *r);
 /* What the step answered: 0 where it was accepted. */
 uint32_t refusal_of(const struct run *r, int step);
 
+/* The words in which two images differ, as frostsorrel_compare lists them. */
+struct changes {
+    size_t count;
+    uint8_t list[FROSTSORREL_DIFFERENCE_BYTES];
+};
+
+/*
+ * From the image after one step to that after another, which may be an earlier one. Every image of a run is good, so
+ * that the library lists what differs; where it refuses, that is said, and the program ends with COMMAND_DIFFERS.
+ */
+void changes_between(const struct run *r, int from, int to, struct changes *into);
+
 #endif

@@ -120,16 +120,30 @@ void say_only_identifier(struct text *t, const char *before, const struct run *r
 
 /* ---- the steps */
 
-/* Does the step book nothing and change nothing but counters that such steps move on? */
+/* The counters that ticks, receive errors and recessive bits move on. */
+static int is_counter(uint32_t word)
+{
+    return word == FIRST_REGISTER + FROSTSORREL_TSC || word == FIRST_REGISTER + FROSTSORREL_REC ||
+           word == FIRST_REGISTER + FROSTSORREL_WORD_RECOVERY;
+}
+
+/* Does the step book nothing and change nothing but counters? */
 static int is_quiet(const struct run *r, int step)
 {
-    const uint8_t *before = r->image[step - 1], *after = r->image[step];
+    struct changes c;
 
-    for (int word = next_change(before, after, 0); word < WORDS; word = next_change(before, after, word + 1))
-        if (word != FIRST_REGISTER + FROSTSORREL_TSC && word != FIRST_REGISTER + FROSTSORREL_REC &&
-            word != FIRST_REGISTER + FROSTSORREL_WORD_RECOVERY)
+    changes_between(r, step - 1, step, &c);
+    for (size_t i = 0; i < c.count; i++)
+        if (!is_counter(frostsorrel_entry_number(c.list, i)))
             return 0;
     return r->step[step].first_made == r->step[step + 1].first_made;
+}
+
+/* Has the step behind this one the same event, and the same answer? */
+static int is_repeated(const struct run *r, int step)
+{
+    return step < r->steps && r->step[step].answer == r->step[step + 1].answer &&
+           memcmp(r->step[step].event, r->step[step + 1].event, FROSTSORREL_EVENT_BYTES) == 0;
 }
 
 /* The last of the quiet steps that do the same as this one, one behind the other: they are told as one. */
@@ -137,9 +151,9 @@ static int last_of_row(const struct run *r, int first)
 {
     int last = first;
 
-    while (last < r->steps && is_quiet(r, last) && is_quiet(r, last + 1) &&
-           r->step[last].answer == r->step[last + 1].answer &&
-           memcmp(r->step[last].event, r->step[last + 1].event, FROSTSORREL_EVENT_BYTES) == 0)
+    if (!is_repeated(r, first) || !is_quiet(r, first))
+        return first;
+    while (is_repeated(r, last) && is_quiet(r, last + 1))
         last++;
     return last;
 }
@@ -182,20 +196,18 @@ static void tell_entries(struct pen *p, const struct run *r, int step)
 }
 
 /* Answers how many words changed from before the first to behind the last step. */
-static int tell_changes(struct pen *p, const struct run *r, int first, int last)
+static size_t tell_changes(struct pen *p, const struct run *r, int first, int last)
 {
-    const uint8_t *before = r->image[first - 1], *after = r->image[last];
     struct text words = {0}, numbers = {0};
-    int changes = 0;
+    struct changes c;
 
-    for (int word = next_change(before, after, 0); word < WORDS; word = next_change(before, after, word + 1)) {
-        say_change(&words, before, after, word);
-        text_add(&numbers, "0x%08lX -> 0x%08lX", wide(frostsorrel_word(before + 4 * word)),
-                 wide(frostsorrel_word(after + 4 * word)));
+    changes_between(r, first - 1, last, &c);
+    for (size_t i = 0; i < c.count; i++) {
+        say_change(&words, c.list, i);
+        say_contents(&numbers, c.list, i);
         put_detail(p, CHANGED, &words, &numbers);
-        changes++;
     }
-    return changes;
+    return c.count;
 }
 
 static void tell_row(struct pen *p, const struct run *r, int first, int last)

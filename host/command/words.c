@@ -308,13 +308,6 @@ void say_made(struct text *t, const struct made *m, const uint8_t *before, const
 
 /* ---- changes */
 
-int next_change(const uint8_t *before, const uint8_t *after, int from)
-{
-    while (from < WORDS && memcmp(before + 4 * from, after + 4 * from, 4) == 0)
-        from++;
-    return from;
-}
-
 static void say_numbers(struct text *t, const char *format, uint32_t old, uint32_t new)
 {
     text_add(t, format, wide(old), wide(new));
@@ -348,19 +341,24 @@ static void say_word_1_change(struct text *t, uint32_t old, uint32_t new)
         say_numbers(t, " time stamp %lu -> %lu", old >> 16, new >> 16);
 }
 
-static void say_mailbox_change(struct text *t, const uint8_t *before, const uint8_t *after, int word)
+/* Data bytes stand in a word from its low end. */
+static void say_data(struct text *t, uint32_t word)
 {
-    uint32_t old = frostsorrel_word(before + 4 * word), new = frostsorrel_word(after + 4 * word);
+    for (int i = 0; i < 4; i++)
+        text_add(t, " %02lX", wide(word >> 8 * i & 0xFF));
+}
 
-    text_add(t, "mailbox %d word %d:", word / 4, word % 4);
+static void say_mailbox_change(struct text *t, uint32_t word, uint32_t old, uint32_t new)
+{
+    text_add(t, "mailbox %lu word %lu:", wide(word / 4), wide(word % 4));
     if (word % 4 == 0) {
         say_word_0_change(t, old, new);
     } else if (word % 4 == 1) {
         say_word_1_change(t, old, new);
     } else {
-        say_bytes(t, before + 4 * word, 4);
+        say_data(t, old);
         text_add(t, " ->");
-        say_bytes(t, after + 4 * word, 4);
+        say_data(t, new);
     }
 }
 
@@ -410,15 +408,20 @@ static void say_register_change(struct text *t, uint32_t number, uint32_t old, u
         say_level(t, old, new);
 }
 
-void say_change(struct text *t, const uint8_t *before, const uint8_t *after, int word)
+void say_change(struct text *t, const uint8_t *list, size_t entry)
 {
-    uint32_t number = (uint32_t)(word - FIRST_REGISTER);
+    uint32_t word = frostsorrel_entry_number(list, entry);
+    uint32_t old = frostsorrel_entry_first(list, entry), new = frostsorrel_entry_second(list, entry);
 
     if (word < FIRST_REGISTER)
-        say_mailbox_change(t, before, after, word);
+        say_mailbox_change(t, word, old, new);
     else
-        say_register_change(t, number, frostsorrel_register_word(before, number),
-                            frostsorrel_register_word(after, number));
+        say_register_change(t, word - FIRST_REGISTER, old, new);
+}
+
+void say_contents(struct text *t, const uint8_t *list, size_t entry)
+{
+    say_numbers(t, "0x%08lX -> 0x%08lX", frostsorrel_entry_first(list, entry), frostsorrel_entry_second(list, entry));
 }
 
 const char *state_of(const uint8_t *image)

@@ -17,14 +17,14 @@ void say_reason(struct text *t, const uint8_t *before, const uint8_t *event, uin
 /* An entry in the books, and why a frame came to no mailbox: "released: mailbox 5, the frame of step 14". */
 void say_made(struct text *t, const struct made *m, const uint8_t *before, const uint8_t *event, uint64_t answer);
 
-/* The words of an image, counted from its first byte: four of each mailbox, then the register words. */
-enum { WORDS = FROSTSORREL_IMAGE_BYTES / 4, FIRST_REGISTER = 4 * FROSTSORREL_MAILBOXES };
+/* The register words stand behind the four of each mailbox, counted from the first byte of an image. */
+enum { FIRST_REGISTER = 4 * FROSTSORREL_MAILBOXES };
 
-/* The first word from here on in which two images differ, WORDS if there is none. */
-int next_change(const uint8_t *before, const uint8_t *after, int from);
+/* How a word changed, by an entry of frostsorrel_compare's list: "RML: +5", "mailbox 5 word 1: DLC 4 -> 3". */
+void say_change(struct text *t, const uint8_t *list, size_t entry);
 
-/* How that word changed: "RML: +5", "mailbox 5 word 1: DLC 4 -> 3". */
-void say_change(struct text *t, const uint8_t *before, const uint8_t *after, int word);
+/* The same in numbers: "0x00000000 -> 0x00000020". */
+void say_contents(struct text *t, const uint8_t *list, size_t entry);
 
 /* Has a register this number? It may be one that can only be read. */
 int is_register(uint32_t number);
