@@ -15,6 +15,7 @@ enum {
 /* The subcommands. argv[0] is the subcommand's own name; the answer is an exit status. */
 int command_list(int argc, char **argv);
 int command_report(int argc, char **argv);
+int command_diff(int argc, char **argv);
 int command_make(int argc, char **argv);
 int command_text(int argc, char **argv);
 int command_candump(int argc, char **argv);
