@@ -16,7 +16,6 @@ use Rattle.answers.specs.Answer.{Refuses, Tells}
 use Rattle.rules.specs.Image.{Good}
 use Rattle.rules.proofs.Good.{good-rule, rule-good}
 use Rattle.compare.specs.Compare.{differences, listBytes, CompareCall}
-use Rattle.compare.proofs.Below.{length-list}
 
 -- the images a and b as the code judges them, and as the rulebook does
 abbrev pub bothGood : List ℕ → List ℕ → Bool

@@ -29,11 +29,10 @@ abbrev pub Changes : List ℕ → ℕ → ℕ → List Entry → Type 0
 Changes a k n [] = Unit
 Changes a k n (e ∷ es) = (k ≤ e .number) × (e .number < n) × Change a e × Changes a (e .number + 1) n es
 
--- Of any two images of 160 words: an entry is listed exactly where they differ; numbers rise, and nothing equal is listed; applied to the
--- first image the list yields the second; no other list does that which rises and names nothing equal.
+-- Of any two images: an entry is listed exactly where they differ; numbers rise, and nothing equal is listed; applied to the first image the
+-- list yields the second; and no other list does, of those that name words of the first image in rising order and change each.
 pub record Told : Type 0 where
   pub listed : (a b : List ℕ) (e : Entry) → Listed e (differences a b) ↔ Differs a b e
   pub rises : (a b : List ℕ) → Bytes b → Changes a 0 imageWords (differences a b)
   pub yields : (a b : List ℕ) → Bytes a → Bytes b → length a ≡ 640 → length b ≡ 640 → applied a (differences a b) ≡ b
-  pub only : (a b : List ℕ) → Bytes a → Bytes b → length a ≡ 640 → length b ≡ 640 → (es : List Entry) → Changes a 0 imageWords es → applied a es ≡ b
-      → es ≡ differences a b
+  pub only : (a b : List ℕ) → length a ≡ 640 → (es : List Entry) → Changes a 0 imageWords es → applied a es ≡ b → es ≡ differences a b

@@ -54,8 +54,7 @@ loop-again : tie.Need-loop-again Inv-loop μ-loop
 loop-again c =
     let d = c .before .before .before in
     let a = d .before .before .before .before .args in
-    let l = d .loop in
-    (
+    let l = d .loop in (
       ⊎-elim
           (λ w.
           let p = as-text (sym (four-more (a .first .now) (a .second .now) (l .k))) (both-put (l .inv .0) (w .2 .ensures)) in
