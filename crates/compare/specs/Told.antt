@@ -1,4 +1,4 @@
--- Document 02, a: what is proved of the list.
+-- Document 02, request a: what is proved of the list.
 use Prim.Native.Nat.{ℕ, _+_, _^_, _<_, _≤_}
 use mathlib.Core.Path.{_≡_}
 use mathlib.Core.List.{List, [], _∷_}

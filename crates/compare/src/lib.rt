@@ -1,15 +1,16 @@
-// Document 02, a: comparing two images.
+// Document 02, request a: comparing two images.
 ghost use mathlib.Core.Path.{_≡_};
+ghost use mathlib.Core.Bool.{true};
 ghost use Prim.Native.Nat.{_+_, _*_, _<_, _≤_};
 ghost use lib.Dec.{leb};
 ghost use lib.ListN.{length};
 ghost use Rattle.texts.specs.Text.{Put};
-ghost use Rattle.compare.specs.Compare.{imageWord, differences, entryBytes, listBytes, CompareCall};
+ghost use Rattle.compare.specs.Compare.{imageWord, differences, entryBytes, listBytes, Compares, bothGood};
 ghost use Rattle.compare.specs.Four.{sameTwo, sameFour, oneBytes, fourBytes};
 
 const IMAGE_WORDS: usize = 160;
 
-// Room for any list.
+// Room for any list: 12 bytes for each word.
 const LONGEST: usize = 1920;
 
 // One differing word: its number in the image, and both contents.
@@ -128,7 +129,7 @@ fn has_room(first: &[u8], second: &[u8], room: usize) -> bool
 
 // Any bytes: the list of what differs, or a refusal that writes nothing.
 pub fn compare(first: &[u8], second: &[u8], list: &mut [u8]) -> u64
-    ensures { λ r. ⌜ CompareCall (now (first .entry)) (now (second .entry)) (now (list .entry)) (now (list .exit)) r ⌝ }
+    ensures { λ r. ⌜ Compares (bothGood (now (first .entry)) (now (second .entry)) ≡ true) (now (first .entry)) (now (second .entry)) (now (list .entry)) (now (list .exit)) r ⌝ }
 {
     if !(good::good_image(first) & good::good_image(second)) {
         return answers::pack(1, 32, 0);

@@ -1,6 +1,5 @@
 // The C entry points of the model.
-ghost use Rattle.rules.specs.Calls.{FreshCall, StepCall, ReadCall};
-ghost use Rattle.compare.specs.Compare.{CompareCall};
+ghost use Rattle.rules.specs.Calls.{FreshCall, StepCall, ReadCall, CompareCall};
 
 // uint64_t frostsorrel_fresh(uint8_t *image, size_t image_len)
 #[no_mangle]

@@ -1,15 +1,23 @@
--- What a C caller sees: the promises of fresh, step, read and the listing are the rulebook's, which leave no choice.
+-- What a C caller sees: the promises of fresh, step, read, listing and compare are the rulebook's, which leave no choice.
 use Prim.Native.Nat.{ℕ, _+_, _*_, _^_}
-use mathlib.Core.Path.{_≡_, sym, _∙_, ap}
+use mathlib.Core.Path.{_≡_, refl, sym, _∙_, ap}
+use mathlib.Core.Bool.{Bool, true, false, false≢true}
 use mathlib.Core.List.{List}
+use mathlib.Core.Logic.{_⊎_, inl, inr, _↔_}
+use Rattle.bits.proofs.Sets.{and-l, and-r}
 use Rattle.words.proofs.Bytes.{Bytes}
 use Rattle.answers.specs.Answer.{Outcome, Reading, Promise, ReadPromise}
 use Rattle.fresh.specs.Fresh.{fresh}
 use Rattle.reading.specs.Read.{read}
 use Rattle.model.specs.Step.{step}
+use Rattle.good.specs.Good.{goodImage}
+use Rattle.compare.specs.Compare.{Compares, bothGood}
+use Rattle.compare.proofs.Call.{call-as, call-unique}
 use Rattle.trace.specs.Trace.{Listed}
 use Rattle.trace.proofs.Unique.{same-bytes, same-answer}
-use Rattle.rules.specs.Calls.{Call, FreshCall, StepCall, ReadCall, ListingCall}
+use Rattle.rules.specs.Calls.{Call, FreshCall, StepCall, ReadCall, ListingCall, CompareCall}
+use Rattle.rules.specs.Image.{Good}
+use Rattle.rules.proofs.Good.{good-rule, rule-good}
 use Rattle.rules.proofs.Fresh.{fresh-meets, fresh-one}
 use Rattle.rules.proofs.Reading.{reads, read-one}
 use Rattle.rules.proofs.Listing.{lists, listed}
@@ -31,6 +39,16 @@ read-call s k a b p = record { reading = read s k; keeps = reads s b k; packs = 
 
 pub listing-call : (f o x : List ℕ) (a : ℕ) → Bytes f → Listed f o x a → ListingCall f o x a
 listing-call f o x a b = lists f b o x a
+
+-- both images are good by the test exactly where they are by the rules
+both : (a b : List ℕ) → Bytes a → Bytes b → (bothGood a b ≡ true) ↔ (Good a × Good b)
+both a b p q = (
+  λ h. (good-rule a p (and-l (goodImage a) (goodImage b) h), good-rule b q (and-r (goodImage a) (goodImage b) h)),
+  λ g. rw (rule-good a p (g .0), rule-good b q (g .1)),
+)
+
+pub compare-call : (a b o x : List ℕ) (r : ℕ) → Bytes a → Bytes b → Compares (bothGood a b ≡ true) a b o x r → CompareCall a b o x r
+compare-call a b o x r p q = call-as a b _ _ (both a b p q) o x r
 
 -- ---- two results that keep the rules coincide
 
@@ -58,3 +76,10 @@ listing-unique f o h x y a b p q =
     let k = listed f h o x a p in
     let l = listed f h o y b q in
     (same-bytes k l, same-answer k l)
+
+pub compare-unique : (a b : List ℕ) → Bytes a → Bytes b → (o x y : List ℕ) (r s : ℕ) → CompareCall a b o x r → CompareCall a b o y s → (x ≡ y) × (r ≡ s)
+compare-unique a b p q = call-unique a b (Good a × Good b) (judged (bothGood a b) refl)
+  where
+    judged : (t : Bool) → bothGood a b ≡ t → (Good a × Good b) ⊎ ((Good a × Good b) → ⊥)
+    judged true h = inl (both a b p q .0 h)
+    judged false h = inr (λ g. false≢true (sym h ∙ both a b p q .1 g))

@@ -4,7 +4,9 @@ use mathlib.Core.Path.{_≡_}
 use mathlib.Core.List.{List}
 use lib.ListN.{length, take}
 use Rattle.answers.specs.Answer.{Outcome, Reading}
+use Rattle.compare.specs.Compare.{Compares}
 use Rattle.rules.specs.Words.{byte}
+use Rattle.rules.specs.Image.{Good}
 use Rattle.rules.specs.Reading.{Reads}
 use Rattle.rules.specs.Step.{Rules, Fresh}
 use Rattle.rules.specs.Listing.{Listing}
@@ -35,3 +37,7 @@ pub record ListingCall (f o exit : List ℕ) (answer : ℕ) : Type 0 where
   pub listing : 39033 ≤ length o → (answer ≤ length o) × Listing f (take answer exit)
   pub behind : (i : ℕ) → answer ≤ i → byte exit i ≡ byte o i
   pub size : length exit ≡ length o
+
+-- Document 02, request a, comparing two images: the rule is in the crate `compare`, over images that are good by this book.
+abbrev pub CompareCall : List ℕ → List ℕ → List ℕ → List ℕ → ℕ → Type 0
+CompareCall a b o exit answer = Compares (Good a × Good b) a b o exit answer
