@@ -44,13 +44,15 @@ changed s e = putWord s (4 * e .number) (e .second)
 unfoldable pub applied : List ℕ → List Entry → List ℕ
 applied s es = foldl changed s es
 
--- Comparing two images, the call: a and b are only read, o are the bytes that were lent for the list, and `good` says that both images are
--- good. It is refused with 1 where they are not, then with 9 exactly where 12 bytes for each entry are more than were lent; else it
--- writes the list.
+-- Comparing two images: refused with 9 exactly where 12 bytes for each entry are more than the lent bytes o; else the list is written.
+pub record Fitted (a b o exit : List ℕ) (answer : ℕ) : Type 0 where
+  pub short : length o < 12 * length (differences a b) → Refuses 9 o exit answer
+  pub fits : 12 * length (differences a b) ≤ length o → Tells (length (differences a b)) (listBytes (differences a b)) o exit answer
+
+-- Comparing two images, the call: a and b are only read, and `good` says that both are good images. Refused with 1 where they are not.
 pub record Compares (good : Type 0) (a b o exit : List ℕ) (answer : ℕ) : Type 0 where
   pub bad : (good → ⊥) → Refuses 1 o exit answer
-  pub short : good → length o < 12 * length (differences a b) → Refuses 9 o exit answer
-  pub fits : good → 12 * length (differences a b) ≤ length o → Tells (length (differences a b)) (listBytes (differences a b)) o exit answer
+  pub fitted : good → Fitted a b o exit answer
 
 -- Are both images good? As the code judges it.
 abbrev pub bothGood : List ℕ → List ℕ → Bool

@@ -1,11 +1,11 @@
 // Document 02, request a: comparing two images.
 ghost use mathlib.Core.Path.{_≡_};
 ghost use mathlib.Core.Bool.{true};
-ghost use Prim.Native.Nat.{_+_, _*_, _<_, _≤_};
-ghost use lib.Dec.{leb};
+ghost use Prim.Native.Nat.{_+_, _*_, _/_, _<_, _≤_};
 ghost use lib.ListN.{length};
 ghost use Rattle.texts.specs.Text.{Put};
-ghost use Rattle.compare.specs.Compare.{imageWord, differences, entryBytes, listBytes, Compares, bothGood};
+ghost use Rattle.answers.specs.Answer.{noMailbox, packed};
+ghost use Rattle.compare.specs.Compare.{imageWord, differences, entryBytes, listBytes, Fitted, Compares, bothGood};
 ghost use Rattle.compare.specs.Four.{sameTwo, sameFour, oneBytes, fourBytes};
 
 const IMAGE_WORDS: usize = 160;
@@ -100,43 +100,37 @@ fn put_list(first: &[u8], second: &[u8], list: &mut [u8]) -> usize
     at
 }
 
-// How many words differ.
-fn count(first: &[u8], second: &[u8]) -> usize
-    requires { ⌜ (length (now first) ≡ 640) × (length (now second) ≡ 640) ⌝ }
-    ensures { λ r. ⌜ (r ≡ length (differences (now (first .entry)) (now (second .entry)))) × (r ≤ 160) ⌝ }
+// The answer for a list that ends there.
+fn counted(end: usize) -> u64
+    requires { ⌜ end ≤ 1920 ⌝ }
+    ensures { λ r. ⌜ r ≡ packed 0 noMailbox (end / 12) ⌝ }
 {
-    let mut n: usize = 0;
-    let mut k: usize = 0;
-    while k < IMAGE_WORDS {
-        if words::word_at(first, 4 * k) != words::word_at(second, 4 * k) {
-            n += 1;
-        }
-        k += 1;
-    }
-    n
+    answers::pack(0, 32, (end / 12) as u32)
 }
 
-// Have so many bytes room for the list? Nothing may be written before this is known.
-fn has_room(first: &[u8], second: &[u8], room: usize) -> bool
+// The list, where it may not fit: it is made apart from the lent bytes, since a refusal writes nothing.
+fn tell_if_it_fits(first: &[u8], second: &[u8], list: &mut [u8]) -> u64
     requires { ⌜ (length (now first) ≡ 640) × (length (now second) ≡ 640) ⌝ }
-    ensures { λ r. ⌜ r ≡ leb (12 * length (differences (now (first .entry)) (now (second .entry)))) room ⌝ }
+    ensures { λ r. ⌜ Fitted (now (first .entry)) (now (second .entry)) (now (list .entry)) (now (list .exit)) r ⌝ }
 {
-    if room >= LONGEST {
-        return true;
+    let mut apart = [0u8; 1920];
+    let end = put_list(first, second, &mut apart);
+    if list.len() < end {
+        return answers::pack(9, 32, 0);
     }
-    12 * count(first, second) <= room
+    texts::put_text(list, 0, &apart[..end]);
+    counted(end)
 }
 
-// Any bytes: the list of what differs, or a refusal that writes nothing.
+// Any bytes: the list of what differs, or a refusal that writes nothing. Bytes that have room for any list need none apart.
 pub fn compare(first: &[u8], second: &[u8], list: &mut [u8]) -> u64
     ensures { λ r. ⌜ Compares (bothGood (now (first .entry)) (now (second .entry)) ≡ true) (now (first .entry)) (now (second .entry)) (now (list .entry)) (now (list .exit)) r ⌝ }
 {
     if !(good::good_image(first) & good::good_image(second)) {
         return answers::pack(1, 32, 0);
     }
-    if !has_room(first, second, list.len()) {
-        return answers::pack(9, 32, 0);
+    if list.len() < LONGEST {
+        return tell_if_it_fits(first, second, list);
     }
-    let end = put_list(first, second, list);
-    answers::pack(0, 32, (end / 12) as u32)
+    counted(put_list(first, second, list))
 }

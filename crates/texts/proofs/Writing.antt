@@ -5,7 +5,7 @@ use mathlib.Core.List.{List, [], _∷_, _++_, append-assoc}
 use native.Mathlib.Omega.{arith}
 use native.Mathlib.Numerals.{add-one}
 use lib.ListN.{length, take, drop, set, length-append, length-set, take-append-drop}
-use lib.Seq.{take-suc-set, drop-set-lt}
+use lib.Seq.{take-suc-set, drop-set-lt, take-append-seam}
 use Rattle.words.specs.Word.{putWord}
 use Rattle.texts.specs.Text.{written, Put, wordBytes}
 
@@ -74,6 +74,17 @@ module _ {o : List ℕ} {at : ℕ} {t x : List ℕ} {p : ℕ} where
   -- the room that is left for the second
   pub room : Put o at t x p → (u : List ℕ) → at + length (t ++ u) ≤ length o → p + length u ≤ length x
   room h u l = omega (arith, kept h, behind-both h u)
+
+-- a text from the front on: it stands there, and the bytes past it stay
+pub at-front : {o t x : List ℕ} {p : ℕ} → length t ≤ length o → Put o 0 t x p → x ≡ t ++ drop (length t) o
+at-front {o} {t} h w =
+    let z : 0 + length t ≡ length t = omega arith in
+    w .bytes ∙ written-is t o 0 (omega arith) ∙ ap (λ (k : ℕ). t ++ drop k o) z
+
+pub front-of : {o t x : List ℕ} {p : ℕ} → length t ≤ length o → Put o 0 t x p → take p x ≡ t
+front-of {o} {t} h w =
+    let z : 0 + length t ≡ length t = omega arith in
+    ap₂ take (w .behind ∙ z) (at-front h w) ∙ take-append-seam t (drop (length t) o)
 
 -- the room for the first of two texts
 pub front : (t u : List ℕ) (at n : ℕ) → at + length (t ++ u) ≤ n → at + length t ≤ n

@@ -10,7 +10,7 @@ use mathlib.Core.Bool.{Bool, true, false}
 use borrow.Author.Tests.{le-ltb, ltb-false}
 use Rattle.texts.specs.Text.{Put}
 use Rattle.trace.specs.Trace.{listing, longest, Listed}
-use Rattle.texts.proofs.Writing.{written-is}
+use Rattle.texts.proofs.Writing.{at-front}
 use Rattle.trace.proofs.Bound.{listing-most}
 
 -- the listing, written from the front on
@@ -20,7 +20,7 @@ listed f o l p =
     let m = listing-most f in
     let n : 0 + length (listing f) ≡ length (listing f) = omega arith in
     record {
-      bytes = rw e (p .bytes ∙ written-is (listing f) o 0 (omega arith) ∙ rw n);
+      bytes = rw e (at-front (omega arith) p);
       answered = rw e (p .behind ∙ n);
     }
 

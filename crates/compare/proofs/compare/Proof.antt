@@ -1,15 +1,13 @@
-use Prim.Native.Nat.{ℕ, _*_, _/_, _≤_}
-use mathlib.Core.Path.{_≡_, refl, sym, _∙_, ap, ap₂}
+use Prim.Native.Nat.{ℕ}
+use mathlib.Core.Path.{_≡_, refl, sym, _∙_, ap₂}
 use mathlib.Core.Bool.{true, _&&_}
 use mathlib.Core.List.{List}
 use native.Mathlib.Omega.{arith}
-use lib.ListN.{length}
-use borrow.Author.Tests.{not-true, not-false, leb-true, leb-false}
-use Rattle.answers.specs.Answer.{packed}
-use Rattle.compare.specs.Compare.{differences, bothGood}
-use Rattle.compare.proofs.Below.{list-most, length-list}
-use Rattle.compare.proofs.Call.{long-first, long-second, call-bad, call-short, call-fits, put-told}
 use borrow.Author.Needs.{needs}
+use borrow.Author.Tests.{not-true, not-false}
+use Rattle.compare.specs.Compare.{bothGood}
+use Rattle.compare.proofs.Below.{list-most}
+use Rattle.compare.proofs.Call.{long-first, long-second, list-long, put-down, call-bad, call-good}
 use Rattle.compare.proofs.compare.Statement.{statement}
 use Rattle.compare.proofs.compare.Tie as tie
 
@@ -37,49 +35,35 @@ second c = c .before .before .before .before .before .before .args .second .now
 both-good : (c : tie.Else1) → bothGood (first c) (second c) ≡ true
 both-good c = ap₂ _&&_ (sym (c .before .before .good-image .ensures)) (sym (c .before .good-image2 .ensures)) ∙ not-false _ (c .if1 .left)
 
-has-room-requires : tie.Need-has-room-requires
-has-room-requires c κs = (long-first _ _ (both-good c), long-second _ _ (both-good c))
-
-pack-requires-2 : tie.Need-pack-requires-2
-pack-requires-2 c κs = search needs
-
-returns-2 : tie.Need-returns-2
-returns-2 c =
-    let d = c .before .before .before in
-    let l = leb-false _ _ (sym (c .before .before .has-room .ensures) ∙ not-true _ (c .before .if2 .taken)) in
-    call-short _ _ _ _ _ (both-good d) l (refl, c .pack2 .ensures)
-
--- behind the second one: the list fits
-roomy : (c : tie.Else2) → 12 * length (differences (first (c .before .before)) (second (c .before .before))) ≤ length (c .before .before .before .before .before .before .before .before .args .list .now)
-roomy c = leb-true _ _ (sym (c .before .has-room .ensures) ∙ not-false _ (c .if2 .left))
-
-put-list-requires : tie.Need-put-list-requires
-put-list-requires c κs =
-    let g = both-good (c .before .before .before) in
-    (long-first _ _ g, long-second _ _ g, roomy (c .before))
-
--- behind the writer: how many entries its place stands for
-counted : (c : tie.After-put-list) → c .put-list .result / 12 ≡ length (differences (first (c .before .before .before .before)) (second (c .before .before .before .before)))
-counted c = let e = c .put-list .ensures .behind in omega (arith, length-list (differences (first (c .before .before .before .before)) (second (c .before .before .before .before))))
-
-cast-pack : tie.Need-cast-pack
-cast-pack c =
-    let d = c .before .before .before .before .before .before in
-    omega (arith, counted (c .before .before), list-most (first d) (second d))
-
-pack-requires-3 : tie.Need-pack-requires-3
-pack-requires-3 c κs = search needs
+tell-if-it-fits-requires : tie.Need-tell-if-it-fits-requires
+tell-if-it-fits-requires c κs =
+    let g = both-good (c .before .before) in
+    (long-first _ _ g, long-second _ _ g)
 
 same-length : tie.Need-same-length
 same-length c = search needs
 
+returns-2 : tie.Need-returns-2
+returns-2 c = call-good _ _ _ _ _ (both-good (c .before .before .before .before .before)) (c .before .before .tell-if-it-fits .ensures)
+
+put-list-requires : tie.Need-put-list-requires
+put-list-requires c κs =
+    let g = c .before .before in
+    (long-first _ _ (both-good g), long-second _ _ (both-good g), omega (arith, c .before .if2 .left, list-most (first g) (second g)))
+
+counted-requires : tie.Need-counted-requires
+counted-requires c κs =
+    let g = c .before .before .before .before .before in
+    omega (arith, c .before .before .put-list .ensures .behind, list-long (first g) (second g), list-most (first g) (second g))
+
+same-length-2 : tie.Need-same-length-2
+same-length-2 c = search needs
+
 returns-3 : tie.Need-returns-3
 returns-3 c =
-    let w = c .before .before .before in
-    let d = w .before .before .before .before in
-    let l = roomy (w .before .before) in
-    call-fits _ _ _ _ _ (both-good d) l
-    (put-told _ _ _ _ _ _ (omega (arith, length-list (differences (first d) (second d)))) (w .put-list .ensures) (c .pack3 .ensures ∙ ap (packed 0 32) (counted w)))
+    let g = c .before .before .before .before .before .before in
+    call-good _ _ _ _ _ (both-good g)
+    (put-down (first g) (second g) _ _ _ (omega (arith, c .before .before .before .before .before .if2 .left, list-most (first g) (second g))) (c .before .before .before .put-list .ensures) (c .counted .ensures))
 
 pub compare-spec : {M : Type 1} → statement M
 compare-spec =
@@ -89,11 +73,10 @@ compare-spec =
     good-image-requires-2
     pack-requires
     returns
-    has-room-requires
-    pack-requires-2
+    tell-if-it-fits-requires
+    same-length
     returns-2
     put-list-requires
-    cast-pack
-    pack-requires-3
-    same-length
+    counted-requires
+    same-length-2
     returns-3)
