@@ -2,7 +2,7 @@
 ghost use mathlib.Core.Path.{_≡_};
 ghost use Rattle.answers.specs.Answer.{packed, packedReading};
 
-// Refusal, mailbox and count of a fresh or a step.
+// Refusal, mailbox and count of a call.
 pub fn pack(refusal: u32, mailbox: u32, count: u32) -> u64
     ensures { λ r. ⌜ r ≡ packed refusal mailbox count ⌝ }
 {
