@@ -776,7 +776,7 @@ uint64_t reference_read(const uint8_t *image, size_t image_len, uint32_t number)
 #define ENTRY_WORDS 3
 #define ENTRY_BYTES (4 * ENTRY_WORDS)
 
-/* The entry of a word. That of an equal one is not passed over, so that the next one takes its place. */
+/* The entry of a word, and where the next one goes: behind it, or over it where the word is equal. */
 static inline uint32_t *list_word(uint32_t *at, uint32_t number, uint32_t first, uint32_t second)
 {
     at[0] = number;
@@ -812,7 +812,7 @@ static size_t list_differences(uint32_t *entries, const uint8_t *first, const ui
 uint64_t reference_compare(const uint8_t *first, size_t first_len, const uint8_t *second,
                            size_t second_len, uint8_t *list, size_t list_len)
 {
-    uint32_t entries[ENTRY_WORDS * (IMAGE_WORDS + 1)]; /* and room for an equal word behind them */
+    uint32_t entries[ENTRY_WORDS * IMAGE_WORDS];
     size_t count;
 
     if (!good(first, first_len) || !good(second, second_len))
