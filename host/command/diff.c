@@ -13,14 +13,15 @@ static const char help[] =
     "goes from the step that is named first to the other: with the later one first, the way back. - is standard input.\n"
     "\n"
     "The first line names the file and the steps, and says how many words differ, or that nothing differs. A line for\n"
-    "each of them follows, behind two blanks, mailboxes before registers: how it changed, and both contents. So\n"
-    "frostsorrel diff TRACE 13 14 | grep '^  RML:' tells a script whether RML differs.\n"
+    "each of them follows, behind two blanks, mailboxes before registers: how it changed, and both contents. So a\n"
+    "script finds with grep '^  RML:' whether RML differs, once diff has ended with 0: of a file that is no trace it\n"
+    "prints nothing, and RML would seem to stay.\n"
     "\n"
     "Two steps are compared, and not what lies between them: a flag that rose and fell again does not show. The report\n"
     "tells every step.\n"
     "\n"
     "The exit status is 0, whether or not anything differs; 1 where the trace is malformed, with the reason, or where\n"
-    "a check of the report finds a difference; 2 where it cannot be read, or has no such step.\n";
+    "a check of the run finds a difference, which the report tells; 2 where it cannot be read, or has no such step.\n";
 
 static int is_number(const char *word)
 {
