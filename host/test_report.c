@@ -1,12 +1,13 @@
 /*
  * The report on drawn traces and on any bytes: test_report TRACE..
  *
- * Each trace is told as it is, and with some of its bytes changed; random bytes are told as well. The books must balance
- * and agree with the image, every frame that came to nobody, every refusal and every word that changed must be told,
- * each refusal must have a reason that fits it, and so must each frame that no mailbox took.
+ * Each trace is told as it is, with some of its bytes changed, and with events repeated; random bytes are told as well.
+ * The books must balance and agree with the image, every frame that came to nobody, every refusal, every step and every
+ * word that changed must be told, each refusal must have a reason that fits it, and so must each frame that no mailbox
+ * took.
  * host/test_sanitized runs it under the compiler's sanitizers, on the machine's own processor.
  */
-#define _XOPEN_SOURCE 700 /* fork and waitpid beside C99 */
+#define _XOPEN_SOURCE 700 /* fork, waitpid and pipe beside C99 */
 
 #include <stdio.h>
 #include <stdlib.h>
@@ -154,76 +155,131 @@ static void check_losses(const struct run *r, const struct text *text, const str
     text_free(&shown);
 }
 
-/* ---- every word that changes is told, and no other */
+/* ---- every step is told, and every word that changes, and no other */
+
+/* Does the step book nothing, and change nothing but TSC, REC and the recovery count? */
+static int is_quiet(const struct run *r, int step)
+{
+    static const size_t counters[] = {FROSTSORREL_TSC, FROSTSORREL_REC, FROSTSORREL_WORD_RECOVERY};
+    uint8_t after[FROSTSORREL_IMAGE_BYTES];
+
+    memcpy(after, r->image[step], sizeof after);
+    for (size_t i = 0; i < sizeof counters / sizeof counters[0]; i++) {
+        size_t at = 4 * (FIRST_REGISTER + counters[i]);
+
+        memcpy(after + at, r->image[step - 1] + at, 4);
+    }
+    return memcmp(after, r->image[step - 1], sizeof after) == 0 &&
+           r->step[step].first_made == r->step[step + 1].first_made;
+}
+
+/* Only then is the step told as one with the next: nothing may be hidden in a row. */
+static int goes_with_next(const struct run *r, int step)
+{
+    return step < r->steps && is_quiet(r, step) && is_quiet(r, step + 1) &&
+           r->step[step].answer == r->step[step + 1].answer &&
+           memcmp(r->step[step].event, r->step[step + 1].event, FROSTSORREL_EVENT_BYTES) == 0;
+}
 
 /* A pen that lays nothing out: it holds what is told of each row of steps to the images before and behind it. */
-struct counter {
-    struct pen pen; /* the first member, so that a pen of this kind is a counter */
+struct witness {
+    struct pen pen; /* the first member, so that a pen of this kind is a witness */
     const struct run *run;
     const char *name;
-    int first, last, changed, nothing;
+    int first, last, nothing;
+    size_t word; /* the words before this one are told, or did not change */
 };
 
-static void count_step(struct pen *p, int first, int last, const char *event, const char *answer)
+/* The next word that differs between the two images, FROSTSORREL_IMAGE_WORDS if there is none. */
+static size_t next_change(const struct witness *w)
 {
-    struct counter *c = (struct counter *)p;
+    const uint8_t *before = w->run->image[w->first - 1], *after = w->run->image[w->last];
+    size_t word = w->word;
+
+    while (word < FROSTSORREL_IMAGE_WORDS && memcmp(before + 4 * word, after + 4 * word, 4) == 0)
+        word++;
+    return word;
+}
+
+static void hear_step(struct pen *p, int first, int last, const char *event, const char *answer)
+{
+    struct witness *w = (struct witness *)p;
 
     (void)event;
     (void)answer;
-    c->first = first;
-    c->last = last;
-    c->changed = c->nothing = 0;
+    check(first == w->last + 1, "%s: step %d is told behind step %d", w->name, first, w->last);
+    for (int k = first; k <= last; k++)
+        check(goes_with_next(w->run, k) == (k < last), "%s: the row from step %d to %d, at step %d", w->name, first,
+              last, k);
+    w->first = first;
+    w->last = last;
+    w->nothing = 0;
+    w->word = 0;
 }
 
-static void count_detail(struct pen *p, enum kind kind, const char *words, const char *numbers)
+static void hear_detail(struct pen *p, enum kind kind, const char *words, const char *numbers)
 {
-    struct counter *c = (struct counter *)p;
+    struct witness *w = (struct witness *)p;
+    const uint8_t *before = w->run->image[w->first - 1], *after = w->run->image[w->last];
+    struct text contents = {0};
 
-    (void)words;
-    (void)numbers;
-    c->changed += kind == CHANGED;
-    c->nothing += kind == NOTHING;
+    w->nothing += kind == NOTHING;
+    if (kind != CHANGED)
+        return;
+    w->word = next_change(w);
+    if (w->word < FROSTSORREL_IMAGE_WORDS) {
+        text_add(&contents, "0x%08lX -> 0x%08lX", wide(frostsorrel_word(before + 4 * w->word)),
+                 wide(frostsorrel_word(after + 4 * w->word)));
+        w->word++;
+    }
+    check(contents.length && strcmp(numbers, contents.at) == 0, "%s, step %d: %s %s is told, and not %s", w->name,
+          w->first, words, numbers, contents.length ? contents.at : "nothing");
+    text_free(&contents);
 }
 
-static void count_step_done(struct pen *p)
+static void hear_step_done(struct pen *p)
 {
-    struct counter *c = (struct counter *)p;
-    const uint8_t *before = c->run->image[c->first - 1], *after = c->run->image[c->last];
-    int differ = 0, refused = refusal_of(c->run, c->first) != FROSTSORREL_ACCEPTED;
+    struct witness *w = (struct witness *)p;
+    int refused = refusal_of(w->run, w->first) != FROSTSORREL_ACCEPTED;
 
-    for (int at = 0; at < FROSTSORREL_IMAGE_BYTES; at += 4)
-        differ += memcmp(before + at, after + at, 4) != 0;
-    check(c->changed == differ, "%s, step %d: %d words differ, and %d are told", c->name, c->first, differ,
-          c->changed);
-    check(c->nothing == (differ == 0 && !refused), "%s, step %d: %d words differ; that nothing changes is told %d times",
-          c->name, c->first, differ, c->nothing);
+    check(next_change(w) == FROSTSORREL_IMAGE_WORDS, "%s, step %d: word %lu changes, and is not told", w->name,
+          w->first, (unsigned long)next_change(w));
+    check(w->nothing == (w->word == 0 && !refused), "%s, step %d: that nothing changes is told %d times", w->name,
+          w->first, w->nothing);
 }
 
 static void check_changes(const struct run *r, const char *name)
 {
-    struct counter c = {{{0}, 0, 0, 0, 0, count_step, count_detail, count_step_done}, r, name, 0, 0, 0, 0};
+    struct witness w = {{{0}, 0, 0, 0, 0, hear_step, hear_detail, hear_step_done}, r, name, 0, 0, 0, 0};
 
-    tell_steps(&c.pen, r);
+    tell_steps(&w.pen, r);
+    check(w.last == r->steps, "%s: %d steps, and the last one told is %d", name, r->steps, w.last);
 }
 
-/* A comparison that the library refuses ends the program: it must not pass for two equal images. */
+/* A comparison that the library refuses ends the program, and says so: it must not pass for two equal images. */
 static void check_bad_image(void)
 {
     static uint8_t images[2][FROSTSORREL_IMAGE_BYTES]; /* zeros are not good: mailbox 0 is in the slot, unasked */
     struct run r = {.image = images};
     struct changes c;
-    int status = 0;
+    char words[200] = "";
+    int said[2], status = 0;
     pid_t child;
 
     fflush(stdout);
+    check(pipe(said) == 0, "no pipe");
     child = fork();
     if (child == 0) {
-        if (freopen("/dev/null", "w", stderr))
+        if (dup2(said[1], STDERR_FILENO) >= 0)
             changes_between(&r, 0, 1, &c);
         _exit(COMMAND_DONE);
     }
     check(child > 0 && waitpid(child, &status, 0) == child, "no second process");
     check(WIFEXITED(status) && WEXITSTATUS(status) == COMMAND_DIFFERS, "a refused comparison is passed over");
+    close(said[1]);
+    check(read(said[0], words, sizeof words - 1) > 0 && strstr(words, "does not compare steps 0 and 1: refusal 1, "),
+          "a refused comparison says: %s", words); /* with that status a sanitizer ends the program too */
+    close(said[0]);
 }
 
 /* ---- traces */
@@ -277,6 +333,23 @@ static struct bytes damaged(struct bytes file, int changes)
     return copy;
 }
 
+/* A copy in which every event but each third is the one before it once more: steps that may be told as one. */
+static struct bytes repeated(struct bytes file)
+{
+    struct trace t = {.file = damaged(file, 0)};
+
+    split_trace(&t);
+    for (int section = 0; section < SECTIONS; section++)
+        for (int i = 0; i < t.section[section].count; i++) {
+            uint8_t *event = (uint8_t *)t.section[section].events + FROSTSORREL_EVENT_BYTES * i; /* in t.file */
+
+            if (i % 3)
+                memcpy(event, event - FROSTSORREL_EVENT_BYTES, FROSTSORREL_EVENT_BYTES);
+        }
+    text_free(&t.fault);
+    return t.file;
+}
+
 static void check_file(const char *name)
 {
     struct bytes file;
@@ -287,6 +360,7 @@ static void check_file(const char *name)
     }
     for (int changes = 0; changes < 3; changes++)
         check_bytes(damaged(file, 4 * changes), name);
+    check_bytes(repeated(file), name);
     free(file.at);
 }
 

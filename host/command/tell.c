@@ -151,10 +151,9 @@ static int last_of_row(const struct run *r, int first)
 {
     int last = first;
 
-    if (!is_repeated(r, first) || !is_quiet(r, first))
-        return first;
-    while (is_repeated(r, last) && is_quiet(r, last + 1))
-        last++;
+    if (is_quiet(r, first))
+        while (is_repeated(r, last) && is_quiet(r, last + 1))
+            last++;
     return last;
 }
 
