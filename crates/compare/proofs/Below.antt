@@ -12,7 +12,7 @@ use borrow.Author.Tests.{eqb-true, eqb-false, eq-eqb, ne-eqb, leb-true, leb-fals
 use Rattle.bits.proofs.Sets.{and-l, and-r}
 use Rattle.compare.specs.declared.Entry.{Entry}
 use Rattle.compare.specs.Compare.{imageWords, imageWord, difference, differencesBelow, differences, entryBytes, listBytes}
-use Rattle.compare.specs.Four.{same, sameTwo, sameFour, oneBytes, fourBytes}
+use Rattle.compare.specs.Terms.{same, sameTwo, sameFour, oneBytes, fourBytes}
 
 -- ---- one word
 
@@ -103,6 +103,10 @@ list-none = refl
 pub list-one : (e : Entry) → listBytes (e ∷ []) ≡ entryBytes e
 unfolding listBytes flatMap
 list-one e = append-nil (entryBytes e)
+
+pub list-more : (e : Entry) (es : List Entry) → listBytes (e ∷ es) ≡ entryBytes e ++ listBytes es
+unfolding listBytes flatMap
+list-more e es = refl
 
 pub list-both : (es fs : List Entry) → listBytes (es ++ fs) ≡ listBytes es ++ listBytes fs
 unfolding listBytes flatMap

@@ -14,7 +14,8 @@ use Rattle.texts.proofs.Writing.{at-front}
 use Rattle.good.specs.Good.{goodImage}
 use Rattle.good.proofs.Image.{good-length}
 use Rattle.answers.specs.Answer.{noMailbox, packed, Refuses}
-use Rattle.compare.specs.Compare.{differences, listBytes, Fitted, Compares, bothGood}
+use Rattle.compare.specs.Compare.{differences, listBytes, Fitted, Compares}
+use Rattle.compare.specs.Terms.{bothGood}
 use Rattle.compare.proofs.Below.{length-list}
 
 module _ (a b : List ℕ) where

@@ -1,5 +1,5 @@
 -- Comparing two images.
 pub mod Words
 pub mod Below
-pub mod Told
+pub mod Faithful
 pub mod Call

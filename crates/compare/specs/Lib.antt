@@ -1,4 +1,4 @@
 -- Comparing two images.
 pub mod Compare
-pub mod Told
-pub mod Four
+pub mod Faithful
+pub mod Terms

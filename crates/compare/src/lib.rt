@@ -3,10 +3,11 @@ ghost use mathlib.Core.Path.{_≡_};
 ghost use mathlib.Core.Bool.{true};
 ghost use Prim.Native.Nat.{_+_, _*_, _/_, _<_, _≤_};
 ghost use lib.ListN.{length};
+ghost use Rattle.registers.specs.Block.{imageBytes};
 ghost use Rattle.texts.specs.Text.{Put};
 ghost use Rattle.answers.specs.Answer.{noMailbox, packed};
-ghost use Rattle.compare.specs.Compare.{imageWord, differences, entryBytes, listBytes, Fitted, Compares, bothGood};
-ghost use Rattle.compare.specs.Four.{sameTwo, sameFour, oneBytes, fourBytes};
+ghost use Rattle.compare.specs.Compare.{imageWords, imageWord, differences, entrySize, entryBytes, listBytes, Fitted, Compares};
+ghost use Rattle.compare.specs.Terms.{bothGood, sameTwo, sameFour, oneBytes, fourBytes};
 
 const IMAGE_WORDS: usize = 160;
 
@@ -22,7 +23,7 @@ pub struct Entry {
 
 // Words k and k + 1 in one number.
 fn double(s: &[u8], k: usize) -> u64
-    requires { ⌜ (length (now s) ≡ 640) × (k + 2 ≤ 160) ⌝ }
+    requires { ⌜ (length (now s) ≡ imageBytes) × (k + 2 ≤ imageWords) ⌝ }
     ensures { λ r. ⌜ r ≡ imageWord (now (s .entry)) k + 4294967296 * imageWord (now (s .entry)) (k + 1) ⌝ }
 {
     words::word_at(s, 4 * k) as u64 + 4294967296 * (words::word_at(s, 4 * (k + 1)) as u64)
@@ -30,14 +31,14 @@ fn double(s: &[u8], k: usize) -> u64
 
 // Are two words the same, from number k on?
 fn same_two(first: &[u8], second: &[u8], k: usize) -> bool
-    requires { ⌜ (length (now first) ≡ 640) × (length (now second) ≡ 640) × (k + 2 ≤ 160) ⌝ }
+    requires { ⌜ (length (now first) ≡ imageBytes) × (length (now second) ≡ imageBytes) × (k + 2 ≤ imageWords) ⌝ }
     ensures { λ r. ⌜ r ≡ sameTwo (now (first .entry)) (now (second .entry)) k ⌝ }
 {
     double(first, k) == double(second, k)
 }
 
 fn same_four(first: &[u8], second: &[u8], k: usize) -> bool
-    requires { ⌜ (length (now first) ≡ 640) × (length (now second) ≡ 640) × (k + 4 ≤ 160) ⌝ }
+    requires { ⌜ (length (now first) ≡ imageBytes) × (length (now second) ≡ imageBytes) × (k + 4 ≤ imageWords) ⌝ }
     ensures { λ r. ⌜ r ≡ sameFour (now (first .entry)) (now (second .entry)) k ⌝ }
 {
     same_two(first, second, k) & same_two(first, second, k + 2)
@@ -54,7 +55,7 @@ fn put_entry(list: &mut [u8], at: usize, e: Entry) -> usize
 
 // The entry of word k, where it differs.
 fn put_difference(first: &[u8], second: &[u8], k: usize, list: &mut [u8], at: usize) -> usize
-    requires { ⌜ (length (now first) ≡ 640) × (length (now second) ≡ 640) × (k < 160) × (at + length (oneBytes (now first) (now second) k) ≤ length (now list)) ⌝ }
+    requires { ⌜ (length (now first) ≡ imageBytes) × (length (now second) ≡ imageBytes) × (k < imageWords) × (at + length (oneBytes (now first) (now second) k) ≤ length (now list)) ⌝ }
     ensures { λ r. ⌜ Put (now (list .entry)) at (oneBytes (now (first .entry)) (now (second .entry)) k) (now (list .exit)) r ⌝ }
 {
     let x = words::word_at(first, 4 * k);
@@ -74,7 +75,7 @@ fn put_difference(first: &[u8], second: &[u8], k: usize, list: &mut [u8], at: us
 }
 
 fn put_four(first: &[u8], second: &[u8], k: usize, list: &mut [u8], at: usize) -> usize
-    requires { ⌜ (length (now first) ≡ 640) × (length (now second) ≡ 640) × (k + 4 ≤ 160) × (at + length (fourBytes (now first) (now second) k) ≤ length (now list)) ⌝ }
+    requires { ⌜ (length (now first) ≡ imageBytes) × (length (now second) ≡ imageBytes) × (k + 4 ≤ imageWords) × (at + length (fourBytes (now first) (now second) k) ≤ length (now list)) ⌝ }
     ensures { λ r. ⌜ Put (now (list .entry)) at (fourBytes (now (first .entry)) (now (second .entry)) k) (now (list .exit)) r ⌝ }
 {
     let a = put_difference(first, second, k, list, at);
@@ -86,7 +87,7 @@ fn put_four(first: &[u8], second: &[u8], k: usize, list: &mut [u8], at: usize) -
 // The list, at the front of bytes that have room for it. Of two images of one run most words are the same: four of them are
 // passed over at once.
 fn put_list(first: &[u8], second: &[u8], list: &mut [u8]) -> usize
-    requires { ⌜ (length (now first) ≡ 640) × (length (now second) ≡ 640) × (12 * length (differences (now first) (now second)) ≤ length (now list)) ⌝ }
+    requires { ⌜ (length (now first) ≡ imageBytes) × (length (now second) ≡ imageBytes) × (entrySize * length (differences (now first) (now second)) ≤ length (now list)) ⌝ }
     ensures { λ r. ⌜ Put (now (list .entry)) 0 (listBytes (differences (now (first .entry)) (now (second .entry)))) (now (list .exit)) r ⌝ }
 {
     let mut at: usize = 0;
@@ -102,15 +103,15 @@ fn put_list(first: &[u8], second: &[u8], list: &mut [u8]) -> usize
 
 // The answer for a list that ends there.
 fn counted(end: usize) -> u64
-    requires { ⌜ end ≤ 1920 ⌝ }
-    ensures { λ r. ⌜ r ≡ packed 0 noMailbox (end / 12) ⌝ }
+    requires { ⌜ end ≤ entrySize * imageWords ⌝ }
+    ensures { λ r. ⌜ r ≡ packed 0 noMailbox (end / entrySize) ⌝ }
 {
     answers::pack(0, 32, (end / 12) as u32)
 }
 
 // The list, where it may not fit: it is made apart from the lent bytes, since a refusal writes nothing.
 fn tell_if_it_fits(first: &[u8], second: &[u8], list: &mut [u8]) -> u64
-    requires { ⌜ (length (now first) ≡ 640) × (length (now second) ≡ 640) ⌝ }
+    requires { ⌜ (length (now first) ≡ imageBytes) × (length (now second) ≡ imageBytes) ⌝ }
     ensures { λ r. ⌜ Fitted (now (first .entry)) (now (second .entry)) (now (list .entry)) (now (list .exit)) r ⌝ }
 {
     let mut apart = [0u8; 1920];

@@ -11,7 +11,8 @@ use Rattle.fresh.specs.Fresh.{fresh}
 use Rattle.reading.specs.Read.{read}
 use Rattle.model.specs.Step.{step}
 use Rattle.good.specs.Good.{goodImage}
-use Rattle.compare.specs.Compare.{Compares, bothGood}
+use Rattle.compare.specs.Compare.{Compares}
+use Rattle.compare.specs.Terms.{bothGood}
 use Rattle.compare.proofs.Call.{call-as, call-unique}
 use Rattle.trace.specs.Trace.{Listed}
 use Rattle.trace.proofs.Unique.{same-bytes, same-answer}

@@ -5,7 +5,7 @@ use mathlib.Core.List.{List}
 use native.Mathlib.Omega.{arith}
 use borrow.Author.Needs.{needs}
 use borrow.Author.Tests.{not-true, not-false}
-use Rattle.compare.specs.Compare.{bothGood}
+use Rattle.compare.specs.Terms.{bothGood}
 use Rattle.compare.proofs.Below.{list-most}
 use Rattle.compare.proofs.Call.{long-first, long-second, list-long, put-down, call-bad, call-good}
 use Rattle.compare.proofs.compare.Statement.{statement}

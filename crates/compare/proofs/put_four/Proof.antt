@@ -3,7 +3,7 @@ use mathlib.Core.List.{_++_}
 use native.Mathlib.Omega.{arith}
 use borrow.Author.Needs.{needs}
 use Rattle.texts.proofs.Writing.{both-put, room, front}
-use Rattle.compare.specs.Four.{oneBytes}
+use Rattle.compare.specs.Terms.{oneBytes}
 use Rattle.compare.proofs.put_four.Statement.{statement}
 use Rattle.compare.proofs.put_four.Tie as tie
 

@@ -7,7 +7,7 @@ use borrow.Author.Tests.{not-false}
 use Rattle.texts.specs.Text.{written, Put}
 use Rattle.texts.proofs.Writing.{as-text, both-put, kept}
 use Rattle.compare.specs.Compare.{differencesBelow, differences, listBytes}
-use Rattle.compare.specs.Four.{fourBytes}
+use Rattle.compare.specs.Terms.{fourBytes}
 use Rattle.compare.proofs.Below.{below-most, pass-four, four-more, list-none, length-list}
 use Rattle.compare.proofs.put_list.Statement.{statement}
 use Rattle.compare.proofs.put_list.Tie as tie

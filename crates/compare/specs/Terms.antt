@@ -1,10 +1,17 @@
--- Four words at once, by which the code passes over what is the same and writes what is not. The rule itself is in Compare.
+-- Comparing two images: terms for the contracts of the code, which judges both images and goes over four words at once. The rule itself is
+-- in Compare.
 use Prim.Native.Nat.{ℕ, _+_}
 use mathlib.Core.Bool.{Bool, _&&_}
 use mathlib.Core.List.{List, _++_}
 use lib.Dec.{eqb}
+use Rattle.good.specs.Good.{goodImage}
 use Rattle.compare.specs.Compare.{imageWord, difference, listBytes}
 
+-- Are both images good?
+abbrev pub bothGood : List ℕ → List ℕ → Bool
+bothGood a b = goodImage a && goodImage b
+
+-- Is word k the same in both? Are two words, or four, from there on?
 abbrev pub same : List ℕ → List ℕ → ℕ → Bool
 same a b k = eqb (imageWord a k) (imageWord b k)
 

@@ -1,21 +1,25 @@
--- What the list tells: exactly what differs, in rising order; applied to the first image it yields the second; no other list does.
-use Prim.Native.Nat.{ℕ, zero, suc, _+_, _*_, _<_, _≤_}
+-- The list is faithful: exactly what differs, in rising order; applied to the first image it yields the second; no other list does; and its
+-- bytes, read back, are its entries.
+use Prim.Native.Nat.{ℕ, zero, suc, _+_, _*_, _^_, _<_, _≤_}
 use mathlib.Core.Path.{_≡_, refl, sym, _∙_, ap, ap₂, subst}
 use mathlib.Core.Bool.{Bool, true, false}
 use mathlib.Core.List.{List, [], _∷_, _++_, append-nil}
 use mathlib.Core.Logic.{_⊎_, inl, inr, ⊎-elim, _≢_}
+use native.Mathlib.Nat.{add-zero}
 use native.Mathlib.Omega.{arith}
 use lib.Dec.{eqb, ltb}
-use lib.ListN.{length}
+use lib.ListN.{length, getD}
+use lib.Seq.{getD-append-add}
 use borrow.Author.Tests.{eqb-true, eqb-false, ltb-true, ltb-false}
 use Rattle.words.specs.Bytes.{Bytes}
-use Rattle.words.proofs.Laws.{length-put, word-same, word-other}
+use Rattle.words.specs.Word.{wordAt}
+use Rattle.words.proofs.Laws.{length-put, word-same, word-other, word-by-bytes, bytes-of}
 use Rattle.words.proofs.Bytes.{bytes-put, word-lt}
 use Rattle.compare.specs.declared.Entry.{Entry}
-use Rattle.compare.specs.Compare.{imageWords, imageWord, difference, differencesBelow, differences, changed, applied}
-use Rattle.compare.specs.Told.{Listed, Change, Changes, Told}
+use Rattle.compare.specs.Compare.{imageWords, imageWord, difference, differencesBelow, differences, entrySize, entryBytes, listBytes}
+use Rattle.compare.specs.Faithful.{IsListed, Change, Changes, changed, applied, Holds, Faithful}
 use Rattle.compare.proofs.Words.{same-words}
-use Rattle.compare.proofs.Below.{word-same as unlisted, word-other as listed}
+use Rattle.compare.proofs.Below.{word-same as same-none, word-other as other-one, list-both, list-more, length-list}
 
 -- ---- one word of two images
 
@@ -28,21 +32,21 @@ module _ (a b : List ℕ) (k : ℕ) where
   either P f g = at (eqb (imageWord a k) (imageWord b k)) refl
     where
       at : (t : Bool) → eqb (imageWord a k) (imageWord b k) ≡ t → P (difference a b k)
-      at true e = let s = eqb-true _ _ e in subst P (sym (unlisted a b k refl refl s)) (f s)
-      at false e = let d = eqb-false _ _ e in subst P (sym (listed a b k refl refl d)) (g d)
+      at true e = let s = eqb-true _ _ e in subst P (sym (same-none a b k refl refl s)) (f s)
+      at false e = let d = eqb-false _ _ e in subst P (sym (other-one a b k refl refl d)) (g d)
 
 -- ---- an entry is listed exactly where the images differ
 
-listed-left : (e : Entry) (es fs : List Entry) → Listed e es → Listed e (es ++ fs)
+listed-left : (e : Entry) (es fs : List Entry) → IsListed e es → IsListed e (es ++ fs)
 listed-left e [] fs h = absurd h
 listed-left e (d ∷ es) fs (inl p) = inl p
 listed-left e (d ∷ es) fs (inr h) = inr (listed-left e es fs h)
 
-listed-right : (e : Entry) (es fs : List Entry) → Listed e fs → Listed e (es ++ fs)
+listed-right : (e : Entry) (es fs : List Entry) → IsListed e fs → IsListed e (es ++ fs)
 listed-right e [] fs h = h
 listed-right e (d ∷ es) fs h = inr (listed-right e es fs h)
 
-listed-either : (e : Entry) (es fs : List Entry) → Listed e (es ++ fs) → Listed e es ⊎ Listed e fs
+listed-either : (e : Entry) (es fs : List Entry) → IsListed e (es ++ fs) → IsListed e es ⊎ IsListed e fs
 listed-either e [] fs h = inr h
 listed-either e (d ∷ es) fs (inl p) = inl (inl p)
 listed-either e (d ∷ es) fs (inr h) = ⊎-elim (λ g. inl (inr g)) (λ g. inr g) (listed-either e es fs h)
@@ -52,8 +56,8 @@ module _ (a b : List ℕ) where
   abbrev Below : ℕ → Entry → Type 0
   Below n e = (e .number < n) × (e .first ≡ imageWord a (e .number)) × (e .second ≡ imageWord b (e .number)) × (e .first ≢ e .second)
 
-  one-told : (k : ℕ) (e : Entry) → Listed e (difference a b k) → Below (suc k) e
-  one-told k e = either a b k (λ l. Listed e l → Below (suc k) e) (λ s h. absurd h)
+  one-told : (k : ℕ) (e : Entry) → IsListed e (difference a b k) → Below (suc k) e
+  one-told k e = either a b k (λ l. IsListed e l → Below (suc k) e) (λ s h. absurd h)
       (λ d h. ⊎-elim
       (λ p.
       let n : e .number ≡ k = ap (λ (x : Entry). x .number) p in
@@ -62,23 +66,23 @@ module _ (a b : List ℕ) where
       (omega arith, f ∙ ap (imageWord a) (sym n), g ∙ ap (imageWord b) (sym n), λ q. d (sym f ∙ q ∙ g)))
       (λ h. absurd h) h)
 
-  told-below : (n : ℕ) (e : Entry) → Listed e (differencesBelow a b n) → Below n e
+  told-below : (n : ℕ) (e : Entry) → IsListed e (differencesBelow a b n) → Below n e
   unfolding differencesBelow
   told-below zero e h = absurd h
   told-below (suc n) e h =
       ⊎-elim (λ g. let t = told-below n e g in let l = t .0 in (omega arith, t .1, t .2, t .3)) (one-told n e)
       (listed-either e (differencesBelow a b n) (difference a b n) h)
 
-  one-listed : (k : ℕ) (e : Entry) → e .number ≡ k → e .first ≡ imageWord a k → e .second ≡ imageWord b k → e .first ≢ e .second → Listed e (difference a b k)
+  one-listed : (k : ℕ) (e : Entry) → e .number ≡ k → e .first ≡ imageWord a k → e .second ≡ imageWord b k → e .first ≢ e .second → IsListed e (difference a b k)
   one-listed k e n f g d =
-      either a b k (Listed e) (λ s. absurd (d (f ∙ s ∙ sym g))) (λ w. inl (λ i. record { number = n i; first = f i; second = g i }))
+      either a b k (IsListed e) (λ s. absurd (d (f ∙ s ∙ sym g))) (λ w. inl (λ i. record { number = n i; first = f i; second = g i }))
 
-  below-told : (n : ℕ) (e : Entry) → Below n e → Listed e (differencesBelow a b n)
+  below-told : (n : ℕ) (e : Entry) → Below n e → IsListed e (differencesBelow a b n)
   unfolding differencesBelow
   below-told zero e h = let l = h .0 in absurd (omega arith)
   below-told (suc n) e h = at (ltb (e .number) n) refl (below-told n e)
     where
-      at : (t : Bool) → ltb (e .number) n ≡ t → (Below n e → Listed e (differencesBelow a b n)) → Listed e (differencesBelow a b n ++ difference a b n)
+      at : (t : Bool) → ltb (e .number) n ≡ t → (Below n e → IsListed e (differencesBelow a b n)) → IsListed e (differencesBelow a b n ++ difference a b n)
       at true p go = listed-left e (differencesBelow a b n) (difference a b n) (go (ltb-true _ _ p, h .1, h .2, h .3))
       at false p go =
           let l = h .0 in
@@ -241,7 +245,7 @@ module _ (a b : List ℕ) (long : length a ≡ 640) where
       let s = sym (untouched a 0 n es c a n (inr (omega arith))) ∙ h n (omega arith) in
       go (λ i l. h i (omega arith))
       ∙ sym (append-nil (differencesBelow a b n))
-      ∙ ap (λ (d : List Entry). differencesBelow a b n ++ d) (sym (unlisted a b n refl refl s))
+      ∙ ap (λ (d : List Entry). differencesBelow a b n ++ d) (sym (same-none a b n refl refl s))
 
   -- it is named, so it differs
   named : (n : ℕ) (es : List Entry) → n < imageWords → (l : Last a 0 n es) → Makes (suc n) es → (Makes n (l .front) → l .front ≡ differencesBelow a b n)
@@ -262,7 +266,7 @@ module _ (a b : List ℕ) (long : length a ≡ 640) where
       let this : e ≡ entry a b n = λ i. record { number = k i; first = first i; second = second i } in
       l .joined
       ∙ ap₂ (λ (f : List Entry) (d : Entry). f ++ (d ∷ [])) before this
-      ∙ ap (λ (d : List Entry). differencesBelow a b n ++ d) (sym (listed a b n refl refl (λ u. l .change .other (first ∙ u ∙ sym second))))
+      ∙ ap (λ (d : List Entry). differencesBelow a b n ++ d) (sym (other-one a b n refl refl (λ u. l .change .other (first ∙ u ∙ sym second))))
 
   only-below : (n : ℕ) → n ≤ imageWords → (es : List Entry) → Changes a 0 n es → Makes n es → es ≡ differencesBelow a b n
   unfolding differencesBelow
@@ -271,14 +275,37 @@ module _ (a b : List ℕ) (long : length a ≡ 640) where
       ⊎-elim (λ r. unnamed n es r h (only-below n (omega arith) es r)) (λ l. named n es (omega arith) l h (only-below n (omega arith) (l .front) (l .others)))
       (split a n 0 es c)
 
+-- ---- the bytes, read back
+
+word-behind : (p q : List ℕ) (j : ℕ) → wordAt (p ++ q) (length p + j) ≡ wordAt q j
+word-behind p q j =
+    word-by-bytes (p ++ q) q (length p + j) j
+    (λ k l. let e : length p + j + k ≡ length p + (j + k) = omega arith in ap (λ (i : ℕ). getD (p ++ q) i 0) e ∙ getD-append-add p q (j + k) 0)
+
+module _ (e : Entry) (m : e .number < 2 ^ 32) (f : e .first < 2 ^ 32) (g : e .second < 2 ^ 32) where
+  -- at the front of bytes
+  at-once : (t : List ℕ) → Holds (entryBytes e ++ t) 0 e
+  unfolding wordAt
+  at-once t = (bytes-of (e .number) m, bytes-of (e .first) f, bytes-of (e .second) g)
+
+  -- behind others
+  held : (ds es : List Entry) → Holds (listBytes (ds ++ (e ∷ es))) (entrySize * length ds) e
+  held ds es = (ap (wordAt (listBytes (ds ++ (e ∷ es)))) (sym (add-zero (entrySize * length ds))) ∙ at 0 ∙ at-once (listBytes es) .0, at 4 ∙ at-once (listBytes es) .1, at 8 ∙ at-once (listBytes es) .2)
+    where
+      at : (j : ℕ) → wordAt (listBytes (ds ++ (e ∷ es))) (entrySize * length ds + j) ≡ wordAt (entryBytes e ++ listBytes es) j
+      at j =
+          ap₂ wordAt (list-both ds (e ∷ es) ∙ ap (λ (t : List ℕ). listBytes ds ++ t) (list-more e es)) (ap (λ (n : ℕ). n + j) (sym (length-list ds)))
+          ∙ word-behind (listBytes ds) (entryBytes e ++ listBytes es) j
+
 -- ---- all of it
 
-pub told : Told
+pub faithful : Faithful
 unfolding differences
-told =
+faithful =
     record {
       listed = λ a b e. (told-below a b imageWords e, below-told a b imageWords e);
       rises = λ a b q. rising a b q imageWords;
       yields = yielded;
+      bytes = λ ds es e m f g. held e m f g ds es;
       only = λ a b l es c h. only-below a b l imageWords (omega arith) es c (λ i o. ap (λ (x : List ℕ). imageWord x i) h);
     }
