@@ -10,6 +10,7 @@ use native.Mathlib.Omega.{arith}
 use lib.Dec.{eqb, ltb}
 use lib.ListN.{length, getD}
 use lib.Seq.{getD-append-add}
+use borrow.Author.Count.{below-more}
 use borrow.Author.Tests.{eqb-true, eqb-false, ltb-true, ltb-false}
 use Rattle.words.specs.Bytes.{Bytes}
 use Rattle.words.specs.Word.{wordAt}
@@ -149,14 +150,6 @@ untouched a k n (e ∷ es) c s i (inr l) =
     let m = c .1 in
     untouched a (e .number + 1) n es (c .3) (changed s e) i (inr l) ∙ word-other s (4 * e .number) (e .second) (4 * i) (inr (omega arith))
 
--- what holds below n and at n holds below n + 1
-up-to : (P : ℕ → Type 0) (n : ℕ) → ((i : ℕ) → i < n → P i) → P n → (i : ℕ) → i < suc n → P i
-up-to P n f p i l = at (ltb i n) refl
-  where
-    at : (t : Bool) → ltb i n ≡ t → P i
-    at true q = f i (ltb-true i n q)
-    at false q = let m = ltb-false i n q in let e : n ≡ i = omega arith in subst P e p
-
 module _ (a b : List ℕ) (p : Bytes a) (q : Bytes b) (long : length a ≡ 640) (sized : length b ≡ 640) where
   -- the first image, changed in the words below n
   abbrev halfway : ℕ → List ℕ
@@ -167,7 +160,7 @@ module _ (a b : List ℕ) (p : Bytes a) (q : Bytes b) (long : length a ≡ 640) 
   unfolding differencesBelow
   next n l h i m =
       ap (λ (x : List ℕ). imageWord x i) (applied-both a (differencesBelow a b n) (difference a b n))
-      ∙ up-to (λ i. imageWord (applied (halfway n) (difference a b n)) i ≡ imageWord b i) n
+      ∙ below-more (λ i. imageWord (applied (halfway n) (difference a b n)) i ≡ imageWord b i) n
       (λ i o.
       either a b n (λ d. imageWord (applied (halfway n) d) i ≡ imageWord b i)
       (λ s. ap (λ (x : List ℕ). imageWord x i) (applied-none (halfway n)) ∙ h i o)
@@ -175,7 +168,7 @@ module _ (a b : List ℕ) (p : Bytes a) (q : Bytes b) (long : length a ≡ 640) 
       (either a b n (λ d. imageWord (applied (halfway n) d) n ≡ imageWord b n)
       (λ s. ap (λ (x : List ℕ). imageWord x n) (applied-none (halfway n)) ∙ untouched a 0 n (differencesBelow a b n) (rising a b q n) a n (inr (omega arith)) ∙ s)
       (λ d. ap (λ (x : List ℕ). imageWord x n) (applied-one (halfway n) (entry a b n)) ∙ word-same (halfway n) (4 * n) (imageWord b n) (omega (arith, length-applied a (differencesBelow a b n))) (word-lt b q (4 * n))))
-      i m
+      i (omega arith)
 
   -- the words below n are those of the second image
   yield-below : (n : ℕ) → n ≤ imageWords → (i : ℕ) → i < n → imageWord (halfway n) i ≡ imageWord b i
