@@ -20,7 +20,7 @@ use Rattle.registers.specs.Status.{vacant, filled, asleep, busOff}
 use Rattle.registers.specs.Writes.{slotMask, directed, requested, cancelled, released, noted, writes, written}
 use Rattle.registers.specs.Modes.{onBus, ticked, worsened, recessive, optioned, asked, risen, ready, fallsAsleep, entered, settled}
 use Rattle.registers.specs.Frames.{wakened, listened, stored, replied}
-use Rattle.registers.specs.Sending.{started, sent, failed}
+use Rattle.registers.specs.Sending.{started, sent, failed, added, concluded}
 use Rattle.registers.proofs.Flags.{requested-trs, released-rmp, released-rml, ending-bit, late-bit, cancelled-trs, cancelled-trr, slot-bit, stored-rmp, stored-rml, replied-trs, sent-trs, sent-trr, aborting-bit, failed-trs, failed-trr}
 use Rattle.events.specs.declared.Event.{Event}
 use Rattle.events.specs.declared.Event.the-variants.{Refused, Register, Mailbox, Heard, Start, Outcome, ReceiveError, Recessive, Tick, Mode, Options, Reset}
@@ -38,10 +38,10 @@ use Rattle.good.proofs.Image.{good-length}
 use Rattle.answers.specs.Answer.{noMailbox, refused}
 use Rattle.refusals.specs.Refusal.{refusal, remaining}
 use Rattle.refusals.proofs.Order.{refusal-bad, refusal-good}
-use Rattle.model.specs.Step.{startedWith, concluded, own, goes, delivered, acted, blockAfter, mailboxesAfter, namedBy, named, accepted, step}
+use Rattle.model.specs.Step.{startedWith, own, goes, delivered, acted, blockAfter, mailboxesAfter, namedBy, named, accepted, step}
 use Rattle.model.proofs.Whole.{real}
 use Rattle.books.specs.Ledger.{Happening, store, acknowledge, request, cancel, start, send, fail, sleep, reset, after}
-use Rattle.books.specs.Happen.{when, byWrite, byOutcome, direct, dozes, happens, happenings, inSlot}
+use Rattle.books.specs.Happen.{when, byWrite, direct, happens, happenings, inSlot}
 use Rattle.books.proofs.Follows.{look, Follows, Any, none, both, Rows, table, same, once, then}
 use Rattle.books.proofs.Back.{look-back, length-after}
 
@@ -252,9 +252,12 @@ module _ (u : Bool) (m : ℕ) (b : Block) where
         (failed-trr b m more ∙ ap (λ (x : Bool). c && not x) marked ∙ unmarks-where c here)
         (λ e. ap (bit (b .trs)) (eqb-true m (b .slot) e) ∙ g) (λ k. (lit< tt, k .1, k .2))
 
-    outcome-follows : (k : ℕ) → bit (b .trs) (b .slot) ≡ true → Follows (Sound u) m b (concluded b k) (getD (byOutcome here) k [])
-    outcome-follows k g =
-        table m b (sent b ∷ failed b 0 ∷ failed b 8 ∷ []) (byOutcome here) (send-follows g, (fail-follows 0 g, (fail-follows 8 g, tt))) k
+    outcome-follows : (k : ℕ) → bit (b .trs) (b .slot) ≡ true → Follows (Sound u) m b (concluded b k) (when here (cond (eqb k 0) send fail))
+    outcome-follows k g = at (eqb k 0)
+      where
+        at : (t : Bool) → Follows (Sound u) m b (cond t (sent b) (failed b (added b k))) (when here (cond t send fail))
+        at true = send-follows g
+        at false = fail-follows (added b k) g
 
   -- the table of writes
   write-follows : (t v : ℕ) → Follows (Sound u) m b (written b t v) (getD (byWrite (bit v m) (bit (b .md) m)) t [])

@@ -30,19 +30,15 @@ abbrev pub byWrite : Bool → Bool → List (List Happening)
 byWrite set receives =
     [] ∷ [] ∷ when (set && not receives) request ∷ when set cancel ∷ [] ∷ [] ∷ when set acknowledge ∷ []
 
--- Sending: what the outcomes sent, arbitration lost and error do at the mailbox that the answer names.
-abbrev pub byOutcome : Bool → List (List Happening)
-byOutcome named = when named send ∷ when named fail ∷ when named fail ∷ []
-
 -- The events: what each operation does at mailbox m, by two tests: does the answer name it, and does it receive? A frame is stored where
--- it does, and asks for a reply elsewhere.
+-- it does, and asks for a reply elsewhere. Every outcome but sent (0) is one that failed.
 unfoldable pub direct : Bool → Bool → Event → ℕ → List Happening
 direct named receives (Refused r) m = []
 direct named receives (Register t v) m = getD (byWrite (bit v m) receives) t []
 direct named receives (Mailbox n k v) m = []
 direct named receives (Heard f) m = when named (cond receives store request)
 direct named receives Start m = when named start
-direct named receives (Outcome k) m = getD (byOutcome named) k []
+direct named receives (Outcome k) m = when named (cond (eqb k 0) send fail)
 direct named receives (ReceiveError v) m = []
 direct named receives Recessive m = []
 direct named receives Tick m = []

@@ -17,7 +17,7 @@ use Rattle.events.specs.declared.Frame.{Frame}
 use Rattle.events.specs.declared.Event.{Event}
 use Rattle.events.specs.declared.Event.the-variants.{Refused, Register, Mailbox, Heard, Start, Outcome, ReceiveError, Recessive, Tick, Mode, Options, Reset}
 use Rattle.events.specs.Parts.{operation, target, word, value, frameOf, frameBytes, frameAllowed}
-use Rattle.events.specs.Decode.{knownAs, quietAs, registerAllowed, allowedAs, eventAs, unknown, disallowed, event, decoded}
+use Rattle.events.specs.Decode.{lastOutcome, knownAs, quietAs, registerAllowed, allowedAs, eventAs, unknown, disallowed, event, decoded}
 use Rattle.events.proofs.Laws.{operations, Each, each}
 use Rattle.events.proofs.Unused.{payload-lt, quiet-data}
 use Rattle.events.proofs.Refusals.{known-operation, operation-below, isRefused, accepted}
@@ -52,7 +52,7 @@ Allowed (Register t v) = RegisterAllowed t v
 Allowed (Mailbox n k v) = MailboxAllowed n k v
 Allowed (Heard f) = FrameAllowed f
 Allowed Start = Unit
-Allowed (Outcome k) = k ≤ 2
+Allowed (Outcome k) = k ≤ lastOutcome
 Allowed (ReceiveError v) = (v ≡ 1) ⊎ (v ≡ 8)
 Allowed Recessive = Unit
 Allowed Tick = Unit
@@ -108,7 +108,7 @@ module _ (e : List ℕ) (b : Bytes e) where
       }
 
   outcome : Fits 4
-  outcome k q a = leb-true (target e) 2 k
+  outcome k q a = leb-true (target e) lastOutcome k
 
   receive-error : Fits 5
   receive-error k q a = either-eqb (value e) 1 8 a

@@ -14,6 +14,10 @@ use Rattle.events.specs.Parts.{eventBytes, operation, target, word, valu
 abbrev pub writable : ℕ → Bool
 writable t = leb t 19 && not (eqb t 7) && not (eqb t 10)
 
+-- Sending: the outcomes are sent, arbitration lost, error and, by document 02, b), no acknowledgement.
+abbrev pub lastOutcome : ℕ
+lastOutcome = 3
+
 -- The events, refusal 2: is there such a register, mailbox, word, outcome, operation?
 abbrev pub knownAs : ℕ → List ℕ → Bool
 knownAs op e =
@@ -22,7 +26,7 @@ knownAs op e =
     ∷ (leb (target e) 31 && leb (word e) 3)
     ∷ true
     ∷ true
-    ∷ leb (target e) 2
+    ∷ leb (target e) lastOutcome
     ∷ true
     ∷ true
     ∷ true

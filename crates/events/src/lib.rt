@@ -58,7 +58,7 @@ fn outcome_event(asleep: bool, e: &[u8]) -> Event
     ensures { λ r. ⌜ r ≡ decodedAs 4 asleep (now (e .entry)) ⌝ }
 {
     let kind = target(e);
-    if !(kind <= 2) {
+    if !(kind <= 3) {
         return Event::Refused { number: 2 };
     }
     judged(quiet(e, true, false, false, 0), Event::Outcome { kind })

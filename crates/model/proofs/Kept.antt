@@ -1,5 +1,5 @@
 -- Demand 2: an accepted step leaves a good image.
-use Prim.Native.Nat.{ℕ, zero, suc, _*_, _<_, _≤_}
+use Prim.Native.Nat.{ℕ, _*_, _<_}
 use mathlib.Core.Path.{_≡_, refl, sym, _∙_, ap}
 use mathlib.Core.Bool.{Bool, true, false, cond, not, false≢true}
 use mathlib.Core.List.{List}
@@ -15,7 +15,7 @@ use Rattle.registers.specs.Block.{blockOf, sleep, emptySlot}
 use Rattle.registers.specs.Status.{vacant, asleep}
 use Rattle.registers.specs.Modes.{onBus}
 use Rattle.registers.specs.Frames.{listened}
-use Rattle.registers.specs.Sending.{started}
+use Rattle.registers.specs.Sending.{started, sent, failed, added, concluded}
 use Rattle.mailboxes.specs.Mailbox.{mailboxes, mailbox, withMailbox, layout}
 use Rattle.mailboxes.specs.Filing.{filed, stamped}
 use Rattle.mailboxes.proofs.Laws.{length-mailbox, bytes-mailbox}
@@ -43,7 +43,7 @@ use Rattle.keeps.proofs.Sending.{started-open, sent-open, failed-open}
 use Rattle.refusals.specs.Refusal.{refusal, remaining}
 use Rattle.refusals.proofs.Order.{refusal-good}
 use Rattle.answers.specs.Answer.{noMailbox, refused}
-use Rattle.model.specs.Step.{own, goes, delivered, acted, blockAfter, startedWith, concluded, stowed, postmarked, rewritten, mailboxesAfter, accepted, step}
+use Rattle.model.specs.Step.{own, goes, delivered, acted, blockAfter, startedWith, stowed, postmarked, rewritten, mailboxesAfter, accepted, step}
 use Rattle.model.proofs.Whole.{unrefused, real}
 
 -- ---- what an event that is not refused tells
@@ -86,11 +86,12 @@ module _ (s : List ℕ) where
           let l = ltb-true (next s) noMailbox e in
           absurd (omega (arith, next-off s h))
 
-  concludes : (k : ℕ) → k ≤ 2 → GoodBlock (blockOf s) → blockOf s .slot ≢ emptySlot → Open (concluded (blockOf s) k)
-  concludes zero h g f = sent-open g f
-  concludes (suc zero) h g f = failed-open g f 0
-  concludes (suc (suc zero)) h g f = failed-open g f 8
-  concludes (suc (suc (suc k))) h g f = absurd (omega arith)
+  concludes : (k : ℕ) → GoodBlock (blockOf s) → blockOf s .slot ≢ emptySlot → Open (concluded (blockOf s) k)
+  concludes k g f = at (eqb k 0)
+    where
+      at : (t : Bool) → Open (cond t (sent (blockOf s)) (failed (blockOf s) (added (blockOf s) k)))
+      at true = sent-open g f
+      at false = failed-open g f (added (blockOf s) k)
 
   pub acted-open : (v : Event) → Taken s v → Open (acted s v)
   unfolding own goes delivered remaining
@@ -101,7 +102,7 @@ module _ (s : List ℕ) where
   acted-open (Heard f) t = held f (delivery s f) (t .good .block) refl
   acted-open Start t = taken-up (t .good .block) (empty (t .free))
   acted-open (Outcome k) t =
-      concludes k (t .fair) (t .good .block) (eqb-false _ _ (clear (vacant (blockOf s)) 7 0 (omega arith) (t .free)))
+      concludes k (t .good .block) (eqb-false _ _ (clear (vacant (blockOf s)) 7 0 (omega arith) (t .free)))
   acted-open (ReceiveError v) t = worsened-open (t .good .block) v
   acted-open Recessive t = recessive-open (t .good .block)
   acted-open Tick t = ticked-open (t .good .block)

@@ -1,5 +1,4 @@
 -- How the code meets the step, and that a good image is left.
-pub mod Outcomes
 pub mod Meets
 pub mod Beside
 pub mod Whole

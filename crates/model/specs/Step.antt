@@ -1,9 +1,8 @@
 -- One step: what an accepted event does to the registers, to the bytes of a mailbox, and what it answers.
 use Prim.Native.Nat.{ℕ, _*_}
 use mathlib.Core.Bool.{Bool, false, cond}
-use mathlib.Core.List.{List, [], _∷_}
+use mathlib.Core.List.{List}
 use lib.Dec.{eqb, ltb}
-use lib.ListN.{getD}
 use Rattle.words.specs.Word.{putWord}
 use Rattle.registers.specs.declared.Block.{Block}
 use Rattle.registers.specs.Block.{blockOf, putBlock}
@@ -11,7 +10,7 @@ use Rattle.fresh.specs.Fresh.{freshBlock}
 use Rattle.registers.specs.Writes.{written}
 use Rattle.registers.specs.Modes.{ticked, worsened, recessive, optioned, asked, risen, settled}
 use Rattle.registers.specs.Frames.{listened, stored, replied}
-use Rattle.registers.specs.Sending.{started, sent, failed}
+use Rattle.registers.specs.Sending.{started, concluded}
 use Rattle.mailboxes.specs.Mailbox.{mailbox, withMailbox}
 use Rattle.mailboxes.specs.Filing.{filed, stamped}
 use Rattle.events.specs.declared.Event.{Event}
@@ -30,10 +29,6 @@ use Rattle.refusals.specs.Refusal.{refusal}
 -- Sending: what was found goes into the slot; nothing found changes nothing.
 abbrev pub startedWith : Block → ℕ → Block
 startedWith b n = cond (ltb n noMailbox) (started b n) b
-
--- Sending: the outcomes sent, arbitration lost and error, which adds 8 to TEC.
-abbrev pub concluded : Block → ℕ → Block
-concluded b k = getD (sent b ∷ failed b 0 ∷ failed b 8 ∷ []) k b
 
 -- The events: what each operation itself does to the registers. What a frame does in a mailbox comes after it.
 unfoldable pub own : List ℕ → Event → Block

@@ -12,7 +12,7 @@ ghost use Rattle.registers.specs.Modes.{settled};
 ghost use Rattle.events.specs.declared.Event.the-variants.{Register, Mailbox, Heard, Start, Outcome, ReceiveError, Recessive, Tick, Mode, Options, Reset};
 ghost use Rattle.filter.specs.declared.Delivery.the-variants.{Into, Reply, Nowhere};
 ghost use Rattle.answers.specs.Answer.{Promise};
-ghost use Rattle.model.specs.Step.{startedWith, concluded as concludedOf, postmarked, step as stepOf};
+ghost use Rattle.model.specs.Step.{startedWith, postmarked, step as stepOf};
 ghost use Rattle.model.specs.Parts.{Loaded, Sized, Fit, Acted, Delivered};
 use events::Event;
 use events::Frame;
@@ -103,19 +103,6 @@ fn start(image: &mut [u8]) -> u64
     answers::pack(0, n, 0)
 }
 
-// What an outcome does to the registers.
-fn concluded(b: Block, kind: u32) -> Block
-    requires { ⌜ (b .slot < 32) × (b .tec ≤ 256) ⌝ }
-    ensures { λ r. ⌜ r ≡ concludedOf b kind ⌝ }
-{
-    match kind {
-        0 => b.send(),
-        1 => b.fail(0),
-        2 => b.fail(8),
-        _ => b,
-    }
-}
-
 // The time stamp of a frame that was sent.
 fn postmark(image: &mut [u8], kind: u32)
     requires { ⌜ Loaded (now image) ⌝ }
@@ -133,7 +120,7 @@ fn conclude(image: &mut [u8], kind: u32) -> u64
 {
     postmark(image, kind);
     let b = Block::load(image);
-    concluded(b, kind).rise(b).store(image);
+    b.conclude(kind).rise(b).store(image);
     answers::pack(0, b.slot, 0)
 }
 

@@ -1,11 +1,12 @@
 -- What starting and its outcome do to the block.
 use Prim.Native.Nat.{ℕ, _+_, _-_}
-use mathlib.Core.Bool.{not}
+use mathlib.Core.Bool.{cond, not, _&&_, _||_}
 use lib.Dec.{eqb}
 use lib.Bits.{bitAnd, bitOr}
 use Rattle.bits.specs.Bit.{without}
 use Rattle.registers.specs.declared.Block.{Block}
 use Rattle.registers.specs.Block.{withTrs, withTrr, withTa, withAa, withMbtif, withGif, withTec, withSlot, emptySlot, busOffAt}
+use Rattle.registers.specs.Status.{passive}
 use Rattle.registers.specs.Writes.{slotMask, gifWith}
 use Rattle.registers.specs.Modes.{atMost}
 
@@ -42,3 +43,12 @@ failed b more =
     (gifWith b (not (eqb (aborting b) 0)) 4))
     (atMost busOffAt (b .tec + more)))
     emptySlot
+
+-- Sending: an error (2) adds 8 to TEC, lost arbitration (1) nothing. Document 02, b): a missing acknowledgement (3) adds 8 too, unless the
+-- unit is already passive.
+abbrev pub added : Block → ℕ → ℕ
+added b k = cond (eqb k 2 || eqb k 3 && not (passive b)) 8 0
+
+-- Sending: what each outcome leaves.
+abbrev pub concluded : Block → ℕ → Block
+concluded b k = cond (eqb k 0) (sent b) (failed b (added b k))

@@ -1,7 +1,7 @@
 // What starting and its outcome do to the block.
 ghost use mathlib.Core.Path.{_≡_};
 ghost use Prim.Native.Nat.{_<_, _≤_};
-ghost use Rattle.registers.specs.Sending.{eligible as eligibleOf, started, sent, failed};
+ghost use Rattle.registers.specs.Sending.{eligible as eligibleOf, started, sent, failed, added as addedBy, concluded};
 use crate::Block;
 use crate::frames::less_one;
 use crate::modes::at_most;
@@ -23,7 +23,7 @@ impl Block {
     }
 
     // The slot's mailbox was sent.
-    pub fn send(mut self) -> Block
+    fn send(mut self) -> Block
         requires { ⌜ self .slot < 32 ⌝ }
         ensures { λ r. ⌜ r ≡ sent self ⌝ }
     {
@@ -38,7 +38,7 @@ impl Block {
     }
 
     // It was not; TEC rises by `more`.
-    pub fn fail(mut self, more: u32) -> Block
+    fn fail(mut self, more: u32) -> Block
         requires { ⌜ (self .slot < 32) × (self .tec ≤ 256) × (more ≤ 8) ⌝ }
         ensures { λ r. ⌜ r ≡ failed self more ⌝ }
     {
@@ -50,5 +50,24 @@ impl Block {
         self.tec = at_most(256, self.tec + more);
         self.slot = 31;
         self
+    }
+
+    // What an outcome other than sent adds to TEC.
+    fn added(self, kind: u32) -> u32
+        ensures { λ r. ⌜ r ≡ addedBy self kind ⌝ }
+    {
+        bits::choose((kind == 2) | ((kind == 3) & !self.is_passive()), 8, 0)
+    }
+
+    // What an outcome leaves.
+    pub fn conclude(self, kind: u32) -> Block
+        requires { ⌜ (self .slot < 32) × (self .tec ≤ 256) ⌝ }
+        ensures { λ r. ⌜ r ≡ concluded self kind ⌝ }
+    {
+        if kind == 0 {
+            self.send()
+        } else {
+            self.fail(self.added(kind))
+        }
     }
 }

@@ -4,7 +4,7 @@ use mathlib.Core.Path.{_≡_, refl, sym, _∙_, ap, subst}
 use mathlib.Core.Bool.{cond, Bool, true, false, _&&_, false≢true}
 use mathlib.Core.List.{List, [], _∷_}
 use mathlib.Core.Logic.{inl, inr}
-use native.Mathlib.Decide.{ℕ-discrete, decLt}
+use native.Mathlib.Decide.{decLt}
 use native.Mathlib.Omega.{arith}
 use lib.Dec.{ltb, eqb}
 use borrow.Author.Tests.{eqb-true}
@@ -29,7 +29,7 @@ use Rattle.rules.specs.Image.{onBus}
 use Rattle.rules.specs.Events.{operation, target, word, value, rtr, Answers}
 use Rattle.rules.specs.Writing.{BoxWrite}
 use Rattle.rules.specs.Receiving.{Stored, Frame}
-use Rattle.rules.specs.Sending.{candidate, key, Start, Ending}
+use Rattle.rules.specs.Sending.{candidate, key, Start, Unsent, Ending}
 use Rattle.rules.specs.Step.{stamped, Quiet, Does, Accepted}
 use Rattle.rules.proofs.Outcomes.{outcome-by}
 use Rattle.rules.proofs.Blocks.{ofBlock, of-block, image-by}
@@ -237,13 +237,23 @@ module _ (s e : List ℕ) (a b : Words) (o u : Result) (bo : Bytes (o .image)) (
             x .none none ∙ sym (y .none none)
 
     outcome-both : operation e ≡ 4 → Both a b o u
-    outcome-both h = at (ℕ-discrete (target e) 0) (ℕ-discrete (target e) 1)
+    outcome-both h = at (target e) refl
       where
-        most : target e ≤ 2
+        most : target e ≤ 3
         most = subst Allowed (ap (λ (n : ℕ). eventAs n e) h) (t .fair)
 
-        at : Dec (target e ≡ 0) → Dec (target e ≡ 1) → Both a b o u
-        at (yes z) d =
+        unsent-both : (tec : ℕ) → Unsent tec was a × BoxesStayBut 32 s (o .image) × Answers (was SLOT) 0 o
+            → Unsent tec was b × BoxesStayBut 32 s (u .image) × Answers (was SLOT) 0 u → Both a b o u
+        unsent-both tec x y =
+            record {
+              same-words = unsent-one was a b tec (x .0) (y .0);
+              same-boxes = kept s (o .image) (u .image) bo bu (x .1) (y .1);
+              same-mailbox = x .2 .0 ∙ sym (y .2 .0);
+              same-count = x .2 .1 ∙ sym (y .2 .1);
+            }
+
+        at : (k : ℕ) → target e ≡ k → Both a b o u
+        at zero z =
             let x = p .sent h z in
             let y = q .sent h z in
             record {
@@ -252,23 +262,10 @@ module _ (s e : List ℕ) (a b : Words) (o u : Result) (bo : Bytes (o .image)) (
               same-mailbox = x .2 .0 ∙ sym (y .2 .0);
               same-count = x .2 .1 ∙ sym (y .2 .1);
             }
-        at (no d) (yes z) =
-            let x = p .lost h z in
-            let y = q .lost h z in
-            quiet (unsent-one was a b _ (x .0) (y .0)) (x .1) (y .1) (x .2) (y .2)
-          where
-            quiet : Agree a b → BoxesStayBut 32 s (o .image) → BoxesStayBut 32 s (u .image) → Answers (was SLOT) 0 o → Answers (was SLOT) 0 u → Both a b o u
-            quiet k m l v w = record { same-words = k; same-boxes = kept s (o .image) (u .image) bo bu m l; same-mailbox = v .0 ∙ sym (w .0); same-count = v .1 ∙ sym (w .1) }
-        at (no d) (no c) =
-            let z : target e ≡ 2 = omega (arith, most) in
-            let x = p .error h z in
-            let y = q .error h z in
-            record {
-              same-words = unsent-one was a b _ (x .0) (y .0);
-              same-boxes = kept s (o .image) (u .image) bo bu (x .1) (y .1);
-              same-mailbox = x .2 .0 ∙ sym (y .2 .0);
-              same-count = x .2 .1 ∙ sym (y .2 .1);
-            }
+        at (suc zero) z = unsent-both _ (p .lost h z) (q .lost h z)
+        at (suc (suc zero)) z = unsent-both _ (p .error h z) (q .error h z)
+        at (suc (suc (suc zero))) z = unsent-both _ (p .unacknowledged h z) (q .unacknowledged h z)
+        at (suc (suc (suc (suc k)))) z = absurd (omega (arith, most))
 
     mailbox-both : operation e ≡ 1 → Both a b o u
     mailbox-both h =

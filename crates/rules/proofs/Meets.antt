@@ -1,7 +1,7 @@
 -- An accepted step meets the rulebook.
 use Prim.Native.Nat.{ℕ, _+_, _*_, _%_, _^_}
 use mathlib.Core.Path.{_≡_, refl, sym, _∙_, ap, subst}
-use mathlib.Core.Bool.{true}
+use mathlib.Core.Bool.{true, cond}
 use mathlib.Core.List.{List, [], _∷_}
 use mathlib.Core.Logic.{_≢_}
 use native.Mathlib.Omega.{arith}
@@ -12,6 +12,7 @@ use Rattle.words.specs.Word.{wordAt, wordsOf}
 use Rattle.words.proofs.Bytes.{Bytes}
 use Rattle.registers.specs.declared.Block.{Block}
 use Rattle.registers.specs.Block.{blockOf}
+use Rattle.registers.specs.Status.{passive}
 use Rattle.registers.specs.Modes.{risen, recessive}
 use Rattle.registers.proofs.Laws.{byte-stays, block-back}
 use Rattle.mailboxes.specs.Mailbox.{mailbox}
@@ -35,7 +36,7 @@ use Rattle.rules.specs.Sending.{Start, Sent, Unsent, ReceiveError, Reces
 use Rattle.rules.specs.Fresh.{FreshWords}
 use Rattle.rules.specs.Step.{stamped, Quiet, Does, Accepted}
 use Rattle.rules.proofs.Blocks.{ofBlock, of-block}
-use Rattle.rules.proofs.Sending.{tick, recessive-bits, receive-error, mode-asked, options-taken, reset, sending, losing, erring, ending}
+use Rattle.rules.proofs.Sending.{tick, recessive-bits, receive-error, mode-asked, options-taken, reset, sending, losing, erring, missing, ending}
 use Rattle.rules.proofs.Starting.{start}
 use Rattle.rules.proofs.Writing.{write-step}
 use Rattle.rules.proofs.Boxes.{box-write}
@@ -107,6 +108,10 @@ module _ (s : List ℕ) where
   unfolding own goes delivered accepted named mailboxesAfter
   does-fail k = (erring b (full 2 k) (k .good .block .core .ranges .tec), stay (Concluded 2) refl, (refl, refl))
 
+  does-missing : TakenEvent s (Concluded 3) → Unsent (cond (passive b) (b .tec) (b .tec + 8)) (ofBlock b) (mid (Concluded 3)) × BoxesStayBut 32 s (accepted s (Concluded 3) .image) × Answers (b .slot) 0 (accepted s (Concluded 3))
+  unfolding own goes delivered accepted named mailboxesAfter
+  does-missing k = (missing b (full 3 k) (k .good .block .core .ranges .tec), stay (Concluded 3) refl, (refl, refl))
+
   does-error : (v : ℕ) → TakenEvent s (Worse v) → ReceiveError v (ofBlock b) (mid (Worse v)) × Quiet s (accepted s (Worse v))
   unfolding own goes delivered mailboxesAfter accepted named
   does-error v k = (receive-error b v, ((refl, refl), stay (Worse v) refl))
@@ -164,6 +169,9 @@ module _ (s e : List ℕ) (bytes : Bytes s) (small-bytes : Bytes e) (g : goodIma
         error =
             of 4 (λ v. target e ≡ 2 → Unsent (atMost 256 (blockOf s .tec + 8)) (ofBlock (blockOf s)) (mid s v) × BoxesStayBut 32 s (accepted s v .image) × Answers (blockOf s .slot) 0 (accepted s v))
             (of-kind s (target e) 2 (λ v. Unsent (atMost 256 (blockOf s .tec + 8)) (ofBlock (blockOf s)) (mid s v) × BoxesStayBut 32 s (accepted s v .image) × Answers (blockOf s .slot) 0 (accepted s v)) (does-fail s));
+        unacknowledged =
+            of 4 (λ v. target e ≡ 3 → Unsent (cond (passive (blockOf s)) (blockOf s .tec) (blockOf s .tec + 8)) (ofBlock (blockOf s)) (mid s v) × BoxesStayBut 32 s (accepted s v .image) × Answers (blockOf s .slot) 0 (accepted s v))
+            (of-kind s (target e) 3 (λ v. Unsent (cond (passive (blockOf s)) (blockOf s .tec) (blockOf s .tec + 8)) (ofBlock (blockOf s)) (mid s v) × BoxesStayBut 32 s (accepted s v .image) × Answers (blockOf s .slot) 0 (accepted s v)) (does-missing s));
         receive-error = of 5 (λ v. ReceiveError (value e) (ofBlock (blockOf s)) (mid s v) × Quiet s (accepted s v)) (does-error s (value e));
         recessive = of 6 (λ v. Recessive (ofBlock (blockOf s)) (mid s v) × Quiet s (accepted s v)) (does-recessive s);
         tick = of 7 (λ v. Tick (ofBlock (blockOf s)) (mid s v) × Quiet s (accepted s v)) (does-tick s);

@@ -22,7 +22,7 @@ use Rattle.registers.specs.Status as Status
 use Rattle.mailboxes.specs.Filing.{dataBytes}
 use Rattle.events.specs.Parts.{payload, quiet, frameAllowed}
 use Rattle.mailboxes.specs.Mailbox.{wordLayout}
-use Rattle.events.specs.Decode.{knownAs, wakefulAs, quietAs, allowedAs, eventAs, registerAllowed}
+use Rattle.events.specs.Decode.{lastOutcome, knownAs, wakefulAs, quietAs, allowedAs, eventAs, registerAllowed}
 use Rattle.events.proofs.Laws.{each}
 use Rattle.events.proofs.Unused.{data-unused, unused-data}
 use Rattle.good.specs.Good.{goodImage}
@@ -240,7 +240,7 @@ module _ (e : List ℕ) where
       ∙ at-1 l16 (ltb 31 (target e) || ltb 3 (word e))
 
   second-4 : Second 4
-  second-4 = ap (λ (x : Bool). l16 || x) (not-leb (target e) 2) ∙ at-4 l16 (ltb 2 (target e))
+  second-4 = ap (λ (x : Bool). l16 || x) (not-leb (target e) lastOutcome) ∙ at-4 l16 (ltb lastOutcome (target e))
 
   seconds : (k : ℕ) → k < 11 → Second k
   seconds =

@@ -9,16 +9,17 @@ use native.Mathlib.Nat.{add-zero}
 use lib.Dec.{eqb}
 use lib.ListN.{getD, replicate}
 use lib.Bits.{or-zero-r}
-use borrow.Author.Tests.{eqb-true, eq-eqb, ne-eqb, le-ltb}
+use borrow.Author.Tests.{eqb-true, eq-eqb, ne-eqb, le-ltb, ltb-false}
 use Rattle.bits.specs.Bit.{bit}
 use Rattle.bits.proofs.Laws.{bit-zero, same-bits}
+use Rattle.bits.proofs.Tests.{neither}
 use Rattle.registers.specs.declared.Block.{Block}
 use Rattle.registers.specs.Block.{withGif, withTsc, withTec, withRec, withRecovery, ofWords}
 use Rattle.fresh.specs.Fresh.{freshBlock}
-use Rattle.registers.specs.Status.{busOff, asleep}
+use Rattle.registers.specs.Status.{busOff, passive, asleep}
 use Rattle.registers.specs.Modes.{ticked, overflows, recessive, worsened, asked, optioned, risen, ready, entered, settled, wakes}
 use Rattle.registers.specs.Writes.{slotMask}
-use Rattle.registers.specs.Sending.{sent, failed, aborting}
+use Rattle.registers.specs.Sending.{sent, failed, aborting, concluded}
 use Rattle.registers.proofs.Flags.{slot-bit, sent-trs, sent-ta, sent-trr, sent-mbtif, aborting-bit, failed-trs, failed-aa, failed-trr, failed-gif, entered-gif, risen-gif, ticked-gif}
 use Rattle.model.proofs.Meets.{calm}
 use Rattle.rules.specs.Words.{_is_, atMost, Only, MD, TRS, TRR, TA, AA, MBTIF, GIF, TSC, TEC, REC, MODE, WAITING, SLOT, RECOVERY, OPTIONS, TSO}
@@ -192,11 +193,22 @@ module _ (b : Block) (full : b .slot ≢ 31) (low : b .tec ≤ 256) where
         rest = only (SLOT ∷ TRS ∷ TRR ∷ AA ∷ TEC ∷ GIF ∷ []) b _ refl;
       }
 
-  pub losing : Unsent (b .tec) (ofBlock b) (ofBlock (risen b (failed b 0)))
-  losing = failing 0 (b .tec) (rw (add-zero (b .tec), le-ltb 256 (b .tec) low))
+  -- TEC where nothing is added, and where 8 are
+  stays : atMost 256 (b .tec + 0) ≡ b .tec
+  stays = rw (add-zero (b .tec), le-ltb 256 (b .tec) low)
 
-  pub erring : Unsent (atMost 256 (b .tec + 8)) (ofBlock b) (ofBlock (risen b (failed b 8)))
+  pub losing : Unsent (b .tec) (ofBlock b) (ofBlock (risen b (concluded b 1)))
+  losing = failing 0 (b .tec) stays
+
+  pub erring : Unsent (atMost 256 (b .tec + 8)) (ofBlock b) (ofBlock (risen b (concluded b 2)))
   erring = failing 8 (atMost 256 (b .tec + 8)) refl
+
+  pub missing : Unsent (cond (passive b) (b .tec) (b .tec + 8)) (ofBlock b) (ofBlock (risen b (concluded b 3)))
+  missing = at (passive b) refl
+    where
+      at : (t : Bool) → passive b ≡ t → Unsent (cond t (b .tec) (b .tec + 8)) (ofBlock b) (ofBlock (risen b (failed b (cond (not t) 8 0))))
+      at true e = failing 0 (b .tec) stays
+      at false e = failing 8 (b .tec + 8) (rw (le-ltb 256 (b .tec + 8) (omega (arith, ltb-false 127 (b .tec) (neither _ _ e .0)))))
 
 -- the end of a step
 pub ending : (b : Block) → Ending (ofBlock b) (ofBlock (settled b))

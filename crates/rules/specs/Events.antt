@@ -29,14 +29,14 @@ abbrev pub rtr : List ℕ → Bool
 rtr e = value e has 30
 
 -- Refusal 2: another length than 16, or a number that nothing has: an operation above 10, a register above 19, a mailbox above 31, a word
--- above 3, an outcome above 2. RML and RFP cannot be written.
+-- above 3, an outcome above 3. RML and RFP cannot be written.
 abbrev pub unknown : ℕ → List ℕ → Bool
 unknown op e =
     not (length e is 16)
     || ltb 10 op
     || op is 0 && (ltb 19 (target e) || target e is RML || target e is RFP)
     || op is 1 && (ltb 31 (target e) || ltb 3 (word e))
-    || op is 4 && ltb 2 (target e)
+    || op is 4 && ltb 3 (target e)
 
 -- Refusal 3: asleep, nothing is written and no option is set.
 abbrev pub asleep : ℕ → Words → Bool

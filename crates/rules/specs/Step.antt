@@ -1,11 +1,13 @@
 -- The rulebook together: what one event leaves, and what a call answers.
 use Prim.Native.Nat.{ℕ, _+_, _*_, _%_, _<_}
 use mathlib.Core.Path.{_≡_}
+use mathlib.Core.Bool.{cond}
 use mathlib.Core.List.{List, [], _∷_}
 use mathlib.Core.Logic.{_≢_}
 use lib.ListN.{length}
 use Rattle.answers.specs.Answer.{Outcome}
 use Rattle.rules.specs.Words.{Words, words, byte, box, atMost, Only, BoxesStayBut, TSC, TEC, SLOT, OPTIONS}
+use Rattle.rules.specs.Image.{passive}
 use Rattle.rules.specs.Events.{operation, target, word, value, Applies, FirstRefusal, Answers}
 use Rattle.rules.specs.Writing.{Write, BoxWrite}
 use Rattle.rules.specs.Receiving.{Frame}
@@ -20,8 +22,9 @@ Quiet s o = Answers 32 0 o × BoxesStayBut 32 s (o .image)
 abbrev pub stamped : List ℕ → ℕ → ℕ
 stamped s n = words s TSC * 65536 + box s n 1 % 65536
 
--- What each operation itself does: `was` are the register words before, `now` those before a waiting mode is taken. Of the three outcomes
--- an error adds 8 to TEC, which stops at 256.
+-- What each operation itself does: `was` are the register words before, `now` those before a waiting mode is taken. Of the outcomes that did
+-- not send, lost arbitration leaves TEC, and an error adds 8, up to 256. Document 02, b): a missing acknowledgement leaves TEC where the unit
+-- was passive before it, and adds 8 where it was not.
 pub record Does (s e : List ℕ) (was now : Words) (o : Outcome) : Type 0 where
   pub register : operation e ≡ 0 → Write (target e) (value e) was now × Quiet s o
   pub mailbox : operation e ≡ 1 → BoxWrite (target e) (word e) (value e) s (o .image) × Only [] was now × Answers 32 0 o
@@ -30,6 +33,8 @@ pub record Does (s e : List ℕ) (was now : Words) (o : Outcome) : Type 0 where
   pub sent : operation e ≡ 4 → target e ≡ 0 → Sent was now × BoxWrite (was SLOT) 1 (stamped s (was SLOT)) s (o .image) × Answers (was SLOT) 0 o
   pub lost : operation e ≡ 4 → target e ≡ 1 → Unsent (was TEC) was now × BoxesStayBut 32 s (o .image) × Answers (was SLOT) 0 o
   pub error : operation e ≡ 4 → target e ≡ 2 → Unsent (atMost 256 (was TEC + 8)) was now × BoxesStayBut 32 s (o .image) × Answers (was SLOT) 0 o
+  pub unacknowledged : operation e ≡ 4 → target e ≡ 3
+      → Unsent (cond (passive was) (was TEC) (was TEC + 8)) was now × BoxesStayBut 32 s (o .image) × Answers (was SLOT) 0 o
   pub receive-error : operation e ≡ 5 → ReceiveError (value e) was now × Quiet s o
   pub recessive : operation e ≡ 6 → Recessive was now × Quiet s o
   pub tick : operation e ≡ 7 → Tick was now × Quiet s o
