@@ -15,7 +15,7 @@ use Rattle.registers.specs.Modes.{ticked, risen, entered, settled}
 use Rattle.registers.specs.Frames.{listened}
 use Rattle.registers.specs.Sending.{failed}
 use Rattle.mailboxes.specs.Mailbox.{mailbox, withMailbox, layout}
-use Rattle.events.specs.Parts.{quiet, frameOf, frameAllowed}
+use Rattle.events.specs.Parts.{plainEvent, quiet, frameOf, frameAllowed}
 use Rattle.filter.specs.Filter.{candidates, matches, hits, found, placed, delivery}
 use Rattle.good.specs.Good.{goodFlags, goodNumbers, goodSlot, goodBlock, goodLayouts, goodSpare, goodImage}
 use Rattle.refusals.specs.Refusal.{busy, locked, pointless, refusal}
@@ -46,17 +46,13 @@ normal = with 22 0 freshImage
 abbrev pub sending : List ℕ
 sending = with 0 1 (with 2 1 (with 24 0 normal))
 
--- An event of which only operation and target are used.
-abbrev pub event : ℕ → ℕ → List ℕ
-event op target = op ∷ target ∷ 0 ∷ 0 ∷ 0 ∷ 0 ∷ 0 ∷ 0 ∷ 0 ∷ 0 ∷ 0 ∷ 0 ∷ 0 ∷ 0 ∷ 0 ∷ 0 ∷ []
-
 -- What a read of register k of an image answers, in the one number that C gets: a refused read is none of the numbers below. The same
 -- of the image that an event leaves.
 abbrev pub reads : List ℕ → ℕ → ℕ
 reads s k = packedReading (read s k .refusal) (read s k .value)
 
 abbrev pub after : List ℕ → ℕ → ℕ → ℕ → ℕ
-after s op target k = reads (step s (event op target) .image) k
+after s op target k = reads (step s (plainEvent op target 0) .image) k
 
 unfoldable pub table : List Row
 table =

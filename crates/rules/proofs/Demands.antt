@@ -4,7 +4,6 @@ use mathlib.Core.Path.{_≡_, refl, sym, _∙_, ap, subst}
 use mathlib.Core.Bool.{Bool, true, false}
 use mathlib.Core.List.{List}
 use mathlib.Core.Logic.{inl}
-use native.Mathlib.Decide.{ℕ-discrete}
 use native.Mathlib.Omega.{arith}
 use lib.ListN.{length}
 use Rattle.words.proofs.Bytes.{Bytes}
@@ -12,7 +11,6 @@ use Rattle.answers.specs.Answer.{Outcome}
 use Rattle.good.proofs.Image.{image-good}
 use Rattle.fresh.specs.Fresh.{fresh, freshImage}
 use Rattle.fresh.proofs.Good.{fresh-facts, fresh-good}
-use Rattle.refusals.specs.Refusal.{refusal}
 use Rattle.model.specs.Step.{step}
 use Rattle.model.proofs.Kept.{step-good}
 use Rattle.rules.specs.Words.{words, box, _has_, BoxesStayBut, MD}
@@ -24,8 +22,7 @@ use Rattle.rules.specs.Calls.{FreshCall, StepCall}
 use Rattle.rules.specs.Demands.{Demand1, Demand2}
 use Rattle.rules.proofs.Good.{good-rule, rule-good}
 use Rattle.rules.proofs.Fresh.{filled, fresh-meets, fresh-one}
-use Rattle.rules.proofs.Order.{first-refusal, none-applies}
-use Rattle.rules.proofs.Step.{step-meets, rules-one}
+use Rattle.rules.proofs.Step.{step-meets, rules-one, either}
 use Rattle.rules.proofs.Calls.{step-call, step-unique}
 
 -- ---- demand 1
@@ -58,19 +55,15 @@ module _ (s e x : List ℕ) (a : ℕ) (bytes : Bytes s) (small : Bytes e) (c : S
       subst Good (sym (c .image ∙ ap (λ (u : Outcome). u .image) same)) (good-rule _ (h .bytes) (image-good _ h))
 
   -- what holds of the image as it came, and of what an accepted event leaves, holds of what the call left
-  either : (P : List ℕ → Type 0) → P s → (Accepted s e o → P (o .image)) → P x
-  either P stays moves = subst P (sym (c .image)) (at (ℕ-discrete (refusal s e) 0))
-    where
-      at : Dec (refusal s e ≡ 0) → P (o .image)
-      at (no d) = subst P (sym (c .keeps .refuses (refusal s e) (first-refusal s e bytes small d) .0)) stays
-      at (yes z) = moves (c .keeps .accepts (none-applies s e bytes small z))
+  left : (P : List ℕ → Type 0) → P s → (Accepted s e o → P (o .image)) → P x
+  left P stays moves = subst P (sym (c .image)) (either s e bytes small o (c .keeps) P stays moves)
 
   -- where no mailbox byte changes, none changes outside mailbox n
   none : (n : ℕ) (y : List ℕ) → BoxesStayBut 32 s y → BoxesStayBut n s y
   none n y p i l q = p i l (inl l)
 
   pub picked : operation e ≡ 2 → (n : ℕ) → First s e n → BoxesStayBut n s x
-  picked op n first = either (BoxesStayBut n s) (λ i l q. refl) (λ p. at (p .does .frame op) (onBus (words s)) refl (words s MD has n) refl (box s n 0 has 29) refl)
+  picked op n first = left (BoxesStayBut n s) (λ i l q. refl) (λ p. at (p .does .frame op) (onBus (words s)) refl (words s MD has n) refl (box s n 0 has 29) refl)
     where
       at : {now : ℕ → ℕ} → Frame s e (words s) now o → (t : Bool) → onBus (words s) ≡ t → (u : Bool) → words s MD has n ≡ u → (v : Bool) → box s n 0 has 29 ≡ v
           → BoxesStayBut n s (o .image)
@@ -80,7 +73,7 @@ module _ (s e x : List ℕ) (a : ℕ) (bytes : Bytes s) (small : Bytes e) (c : S
       at p true h false r false k = none n (o .image) (p .heard h .ignored n first r k .1)
 
   pub nobody : operation e ≡ 2 → ((n : ℕ) → First s e n → ⊥) → BoxesStayBut 32 s x
-  nobody op no-first = either (BoxesStayBut 32 s) (λ i l q. refl) (λ p. at (p .does .frame op) (onBus (words s)) refl)
+  nobody op no-first = left (BoxesStayBut 32 s) (λ i l q. refl) (λ p. at (p .does .frame op) (onBus (words s)) refl)
     where
       at : {now : ℕ → ℕ} → Frame s e (words s) now o → (t : Bool) → onBus (words s) ≡ t → BoxesStayBut 32 s (o .image)
       at p false h = p .unheard h .1

@@ -50,3 +50,11 @@ module _ (s e : List ℕ) (bytes : Bytes s) (small : Bytes e) where
       at (yes z) =
           let f = none-applies s e bytes small z in
           one s e bytes small (accepted-good s e bytes small z) z o u (p .accepts f) (q .accepts f)
+
+  -- what holds of the image as it came, and of what an accepted event leaves, holds of what is left by an outcome that keeps the rules
+  pub either : (o : Outcome) → Rules s e o → (P : List ℕ → Type 0) → P s → (Accepted s e o → P (o .image)) → P (o .image)
+  either o p P stays moves = at (ℕ-discrete (refusal s e) 0)
+    where
+      at : Dec (refusal s e ≡ 0) → P (o .image)
+      at (no d) = subst P (sym (p .refuses (refusal s e) (first-refusal s e bytes small d) .0)) stays
+      at (yes z) = moves (p .accepts (none-applies s e bytes small z))

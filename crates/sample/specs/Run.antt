@@ -1,29 +1,27 @@
 -- One run, in which everything that the books know happens at mailbox 3.
 use Prim.Native.Nat.{ℕ}
 use mathlib.Core.List.{List, [], _∷_, _++_}
+use Rattle.events.specs.Parts.{plainEvent}
 
--- The events: 16 bytes, of which only the operation, the target and the lowest byte of the value are used here.
-abbrev pub bytes : ℕ → ℕ → ℕ → List ℕ
-bytes op target value = op ∷ target ∷ 0 ∷ 0 ∷ value ∷ 0 ∷ 0 ∷ 0 ∷ 0 ∷ 0 ∷ 0 ∷ 0 ∷ 0 ∷ 0 ∷ 0 ∷ 0 ∷ []
-
+-- The events of the run.
 abbrev pub write : ℕ → ℕ → List ℕ
-write register value = bytes 0 register value
+write register value = plainEvent 0 register value
 
 -- A standard data frame without data whose identifier is 0, as that of the mailbox is.
 abbrev pub frame : List ℕ
-frame = bytes 2 0 0
+frame = plainEvent 2 0 0
 
 abbrev pub start : List ℕ
-start = bytes 3 0 0
+start = plainEvent 3 0 0
 
 abbrev pub outcome : ℕ → List ℕ
-outcome k = bytes 4 k 0
+outcome k = plainEvent 4 k 0
 
 abbrev pub mode : ℕ → List ℕ
-mode v = bytes 8 0 v
+mode v = plainEvent 8 0 v
 
 abbrev pub reset : List ℕ
-reset = bytes 10 0 0
+reset = plainEvent 10 0 0
 
 -- Mailbox 3's bit.
 abbrev pub here : ℕ

@@ -1,0 +1,66 @@
+-- One step of a tool alone: what it leaves of TEC.
+use Prim.Native.Nat.{ℕ, _+_, _<_, _≤_}
+use mathlib.Core.Path.{_≡_, refl, sym, _∙_}
+use mathlib.Core.Bool.{Bool, true, false, cond}
+use mathlib.Core.List.{List}
+use mathlib.Core.Logic.{_≢_, inl, inr}
+use native.Mathlib.Decide.{ℕ-discrete}
+use native.Mathlib.Omega.{arith}
+use borrow.Author.Tests.{ltb-false}
+use Rattle.bits.proofs.Tests.{neither}
+use Rattle.words.specs.Bytes.{Bytes}
+use Rattle.model.specs.Step.{step}
+use Rattle.rules.specs.Words.{Words, words, TEC, WAITING}
+use Rattle.rules.specs.Image.{passive}
+use Rattle.rules.specs.Sending.{taken, Ending}
+use Rattle.rules.specs.Step.{Accepted}
+use Rattle.rules.proofs.Step.{step-meets, either}
+use Rattle.lone.specs.Lone.{Alone, Counts}
+
+-- ---- the end of a step
+
+module _ (was now : Words) (k : Ending was now) where
+  -- TEC stays, unless a sleep is taken
+  pub end-stays : was WAITING ≢ 2 → now TEC ≡ was TEC
+  end-stays h = at (taken was) refl
+    where
+      at : (t : Bool) → taken was ≡ t → now TEC ≡ was TEC
+      at false e = k .none e TEC refl
+      at true e = k .awake e h TEC refl
+
+  -- and rises in no case
+  pub end-most : now TEC ≤ was TEC
+  end-most = at (taken was) refl (ℕ-discrete (was WAITING) 2)
+    where
+      at : (t : Bool) → taken was ≡ t → Dec (was WAITING ≡ 2) → now TEC ≤ was TEC
+      at false e d = let z = k .none e TEC refl in omega arith
+      at true e (yes h) = let z = k .asleep e h .0 in omega arith
+      at true e (no h) = let z = k .awake e h TEC refl in omega arith
+
+-- ---- the step
+
+module _ (s e : List ℕ) (bytes : Bytes s) (small : Bytes e) where
+  pub step-bytes : Bytes (step s e .image)
+  step-bytes = either s e bytes small (step s e) (step-meets s e bytes small) Bytes bytes (λ p. record { small = p .size .1 })
+
+  -- passive, TEC stays; otherwise it is at most 127 before, and 135 after
+  room : (t : Bool) → passive (words s) ≡ t → words s TEC < 256 → cond t (words s TEC) (words s TEC + 8) < 256
+  room true e h = h
+  room false e h = let l = ltb-false 127 (words s TEC) (neither _ _ e .0) in omega arith
+
+  pub below : words s TEC < 256 → Alone e → words (step s e .image) TEC < 256
+  below h a = either s e bytes small (step s e) (step-meets s e bytes small) (λ x. words x TEC < 256) h (at a)
+    where
+      ends : (p : Accepted s e (step s e)) → p .middle TEC < 256 → words (step s e .image) TEC < 256
+      ends p l = let k = end-most (p .middle) (words (step s e .image)) (p .ending) in omega arith
+
+      at : Alone e → Accepted s e (step s e) → words (step s e .image) TEC < 256
+      at (y, inl op) p = ends p (let z = p .does .start op .0 .rest TEC refl in omega arith)
+      at (y, inr (op, t)) p = ends p (let z = p .does .unacknowledged op t .0 .tec in let r = room (passive (words s)) refl h in omega arith)
+
+pub counts : Counts
+unfolding Counts
+counts s e bytes small op t free w =
+    let p = step-meets s e bytes small .accepts free in
+    let u = p .does .unacknowledged op t .0 in
+    end-stays (p .middle) (words (step s e .image)) (p .ending) (λ z. w (sym (u .rest WAITING refl) ∙ z)) ∙ u .tec

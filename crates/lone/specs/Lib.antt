@@ -1,0 +1,2 @@
+-- A tool alone on the bench.
+pub mod Lone

@@ -1,0 +1,1 @@
+// No code: what the error counter of a tool does that nobody acknowledges.
