@@ -14,7 +14,8 @@ struct event {
 enum {
     SENT = FROSTSORREL_SENT,
     ARBITRATION_LOST = FROSTSORREL_ARBITRATION_LOST,
-    ERROR = FROSTSORREL_ERROR
+    ERROR = FROSTSORREL_ERROR,
+    UNACKNOWLEDGED = FROSTSORREL_UNACKNOWLEDGED
 };
 
 static inline struct event plain_event(int operation, int target, int word, uint32_t value)

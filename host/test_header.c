@@ -114,6 +114,12 @@ static void events(void)
     memset(e, GUARD, sizeof e);
     same_event("a remote frame", frostsorrel_remote_frame(e, frostsorrel_extended(0x11234567), 8), e,
                "02 08 00 00 67 45 23 d1 00 00 00 00 00 00 00 00");
+    memset(e, GUARD, sizeof e);
+    same_event("sent", frostsorrel_outcome(e, FROSTSORREL_SENT), e,
+               "04 00 00 00 00 00 00 00 00 00 00 00 00 00 00 00");
+    memset(e, GUARD, sizeof e);
+    same_event("no acknowledgement", frostsorrel_outcome(e, FROSTSORREL_UNACKNOWLEDGED), e,
+               "04 03 00 00 00 00 00 00 00 00 00 00 00 00 00 00");
 }
 
 /* ---- the image, each byte of which is another than its neighbours */
@@ -205,7 +211,7 @@ static void names(void)
     static const char *const operations[] = {"register write", "mailbox write", "frame", "start", "outcome",
                                              "receive error", "eleven recessive bits", "tick", "mode",
                                              "options", "reset"};
-    static const char *const outcomes[] = {"sent", "arbitration lost", "error"};
+    static const char *const outcomes[] = {"sent", "arbitration lost", "error", "no acknowledgement"};
     static const char *const modes[] = {"normal", "configuration", "sleep", "suspend", "none"};
     static const char *const refusals[] = {"accepted", "bad image", "unknown", "asleep", "not allowed",
                                            "busy", "locked", "slot empty", "bad trace", "no room"};

@@ -11,8 +11,9 @@
  * event may not lie within the image it is fed to. Everything else is checked: any length, any
  * content and any number gets the answer stated below.
  *
- * "Document 01" is the paper with the exact rules, and the crate `rules` states them one by one. A
- * good image is one that they allow. What frostsorrel_fresh has filled is good.
+ * "Document 01" is the paper with the exact rules, "document 02" the one with what came later, and the
+ * crate `rules` states them one by one. A good image is one that they allow. What frostsorrel_fresh has
+ * filled is good.
  */
 #ifndef FROSTSORREL_H
 #define FROSTSORREL_H
@@ -24,9 +25,9 @@
 extern "C" {
 #endif
 
-#define FROSTSORREL_VERSION "0.2.0"
+#define FROSTSORREL_VERSION "0.3.0"
 #define FROSTSORREL_VERSION_MAJOR 0
-#define FROSTSORREL_VERSION_MINOR 2
+#define FROSTSORREL_VERSION_MINOR 3
 #define FROSTSORREL_VERSION_PATCH 0
 
 #define FROSTSORREL_IMAGE_BYTES 640
@@ -71,8 +72,20 @@ enum {
     FROSTSORREL_RESET = 10
 };
 
-/* How a sending went: the target of FROSTSORREL_OUTCOME. */
-enum { FROSTSORREL_SENT = 0, FROSTSORREL_ARBITRATION_LOST = 1, FROSTSORREL_ERROR = 2 };
+/*
+ * How a sending went: the target of FROSTSORREL_OUTCOME.
+ *
+ * Unacknowledged is what a tool alone on its bus meets: nobody acknowledges the frame, and nobody puts a
+ * dominant bit over the passive error flag. It does all that an error does, but for TEC. Where TEC or REC
+ * was above 127 before it, so that the model was passive already, TEC stays; else it rises by 8, as after
+ * an error. Alone it leads to passive, and never to bus off.
+ */
+enum {
+    FROSTSORREL_SENT = 0,
+    FROSTSORREL_ARBITRATION_LOST = 1,
+    FROSTSORREL_ERROR = 2,
+    FROSTSORREL_UNACKNOWLEDGED = 3
+};
 
 /* The value of FROSTSORREL_MODE. */
 enum {
@@ -188,7 +201,7 @@ uint64_t frostsorrel_fresh(uint8_t *image, size_t image_len);
  *    1  mailbox write            0 to 31     0 to 3  what is written
  *    2  frame                    its DLC             bit 31 IDE, 30 RTR, 28 to 0 identifier
  *    3  start of a sending
- *    4  outcome of the sending   0 to 2
+ *    4  outcome of the sending   0 to 3
  *    5  receive error                                1 or 8
  *    6  eleven recessive bits
  *    7  tick of the time stamp
@@ -216,8 +229,8 @@ uint64_t frostsorrel_fresh(uint8_t *image, size_t image_len);
  *   7  an outcome while no mailbox is in the slot
  *
  * An accepted event leaves a good image again, the one that document 01 lays down (its sections
- * "Writing", "Receiving" and "Sending, errors, modes"; docs/DECISIONS.md settles what they leave
- * open), and the answer has refusal 0 and
+ * "Writing", "Receiving" and "Sending, errors, modes", and for outcome 3 request b) of document 02;
+ * docs/DECISIONS.md settles what they leave open), and the answer has refusal 0 and
  *
  *   for a frame      the mailbox that stored it or is to reply to it, else 32; the count says how
  *                    many mailboxes were compared with it
@@ -359,6 +372,12 @@ static inline uint8_t *frostsorrel_remote_frame(uint8_t *event, uint32_t identif
     return frostsorrel_event(event, FROSTSORREL_FRAME, dlc, 0, identifier | FROSTSORREL_FRAME_RTR);
 }
 
+/* How the sending went: FROSTSORREL_SENT to FROSTSORREL_UNACKNOWLEDGED. */
+static inline uint8_t *frostsorrel_outcome(uint8_t *event, uint8_t how)
+{
+    return frostsorrel_event(event, FROSTSORREL_OUTCOME, how, 0, 0);
+}
+
 /* ---- words: four bytes, low byte first */
 
 static inline uint32_t frostsorrel_word(const uint8_t *bytes)
@@ -480,7 +499,7 @@ static inline const char *frostsorrel_operation_name(uint32_t operation)
 
 static inline const char *frostsorrel_outcome_name(uint32_t outcome)
 {
-    static const char *const names[] = {"sent", "arbitration lost", "error"};
+    static const char *const names[] = {"sent", "arbitration lost", "error", "no acknowledgement"};
 
     return frostsorrel_name_of(names, sizeof names / sizeof names[0], outcome);
 }
