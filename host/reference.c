@@ -1,6 +1,6 @@
 /*
- * Document 01, and the comparison of two images from document 02, in plain C. "D12" and the like are
- * entries of docs/DECISIONS.md.
+ * Document 01, and of document 02 the comparison of two images and the outcome for a missing
+ * acknowledgement, in plain C. "D12" and the like are entries of docs/DECISIONS.md.
  */
 #include "reference.h"
 
@@ -108,6 +108,8 @@ static inline bool on_bus(const uint8_t *image)
 {
     return get(image, MODE) == NORMAL && get(image, TEC) != BUS_OFF;
 }
+
+enum { PASSIVE = 0x02 };
 
 /* Bus off, passive, warning: bits 2, 1, 0 of GSR, and of GIF when they become true. */
 static inline uint32_t conditions(const uint8_t *image)
@@ -617,21 +619,30 @@ static void not_sent(uint8_t *image, uint32_t bit)
     set_bits(image, GIF, ABORTED);
 }
 
-static void count_send_error(uint8_t *image)
+enum { SENT, ARBITRATION_LOST, ERROR, UNACKNOWLEDGED };
+
+/*
+ * What a failed sending adds to TEC: nothing where only the acknowledgement was missing and the sender was
+ * passive before, since it may be alone on the bus.
+ */
+static uint32_t rise(uint32_t how, uint32_t before)
 {
-    uint32_t before = conditions(image), tec = get(image, TEC) + 8;
+    return how == UNACKNOWLEDGED && before & PASSIVE ? 0 : 8;
+}
+
+static void count_send_error(uint8_t *image, uint32_t how)
+{
+    uint32_t before = conditions(image), tec = get(image, TEC) + rise(how, before);
 
     set(image, TEC, tec > BUS_OFF ? BUS_OFF : tec);
     set_bits(image, GIF, conditions(image) & ~before);
 }
 
-enum { SENT, ARBITRATION_LOST, ERROR };
-
 static uint64_t outcome(uint8_t *image, struct event e)
 {
     uint32_t how = target(e), n = get(image, SLOT);
 
-    if (how > ERROR)
+    if (how > UNACKNOWLEDGED)
         return refused(UNKNOWN);
     if (dirty(e, WORD | VALUE))
         return refused(NOT_ALLOWED);
@@ -642,8 +653,8 @@ static uint64_t outcome(uint8_t *image, struct event e)
         sent(image, n);
     else
         not_sent(image, 1u << n);
-    if (how == ERROR)
-        count_send_error(image);
+    if (how == ERROR || how == UNACKNOWLEDGED)
+        count_send_error(image, how);
     take_waiting_mode(image);
     return found(n, 0);
 }
