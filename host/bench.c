@@ -110,9 +110,10 @@ static void sending_image(uint8_t *image)
 
 static struct event sending_outcome(void)
 {
+    static const int failures[] = {ARBITRATION_LOST, ERROR, UNACKNOWLEDGED};
     uint32_t n = draw(16);
 
-    return outcome(n > 1 ? SENT : n ? ARBITRATION_LOST : ERROR);
+    return outcome(n < 3 ? failures[n] : SENT);
 }
 
 /* Requests, starts and outcomes in turn; a cancel now and then, and the way back from bus off. */

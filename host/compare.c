@@ -6,7 +6,8 @@
  * word, and what a few events make of them; either with one clause broken; any bytes; other lengths.
  * Registers are read and models made fresh along the way, and pairs of images compared: equal ones, such
  * that differ in one word or in nearly all, two of a run, bad ones on either side, with too little room for
- * the list, just enough, and more.
+ * the list, just enough, and more. A line before the sum says how often outcome 3 was taken, and how often by a
+ * model that was passive before it, since the two count TEC differently.
  */
 #include <stdlib.h>
 
@@ -147,6 +148,35 @@ static void explain(struct trial t)
         print_words("library, and reference", ours.arena + GUARD, theirs.arena + GUARD);
 }
 
+/* ---- outcome 3, as it was taken by models that were passive before it, and by error active ones */
+
+#define LONG_ENOUGH 5000 /* steps, in which both are met */
+
+static unsigned long by_passive, by_active;
+
+static int passive(const uint8_t *image)
+{
+    return word_of(image, TEC) > FROSTSORREL_PASSIVE_ABOVE || word_of(image, REC) > FROSTSORREL_PASSIVE_ABOVE;
+}
+
+static void count_unacknowledged(const struct trial *t, uint64_t answer)
+{
+    if (t->event[0] != FROSTSORREL_OUTCOME || t->event[1] != UNACKNOWLEDGED ||
+        frostsorrel_answer_refusal(answer) != FROSTSORREL_ACCEPTED)
+        return;
+    if (passive(t->image))
+        by_passive++;
+    else
+        by_active++;
+}
+
+static void check_unacknowledged(unsigned long steps)
+{
+    printf("outcome 3: %lu accepted, of them %lu passive\n", by_passive + by_active, by_passive);
+    check(steps < LONG_ENOUGH || (by_passive > 0 && by_active > 0),
+          "outcome 3 was not met both passive and error active");
+}
+
 /* ---- what is tried */
 
 static uint8_t reached[BYTES]; /* by a run from a fresh model */
@@ -202,6 +232,7 @@ static void compare_step(unsigned long number)
     check(equal(&ours, &theirs), "step %lu: library and reference disagree", number);
     if (!equal(&ours, &theirs) && explained++ < MOST_EXPLAINED)
         explain(t);
+    count_unacknowledged(&t, ours.answer);
     if (source == REACHED)
         memcpy(reached, theirs.arena + GUARD, BYTES);
     if (source == BUILT)
@@ -544,6 +575,7 @@ int main(int argc, char **argv)
         if (draw(4) == 0)
             compare_images(number);
     }
+    check_unacknowledged(steps);
     snprintf(name, sizeof name, "host compare, %lu steps, seed %lu", steps, seed);
     return report(name);
 }

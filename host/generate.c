@@ -15,7 +15,11 @@
 /* ---- numbers */
 
 static uint64_t state = 1;
-static int bad_weather; /* hardly anything that is sent gets through: the way to bus off */
+static enum weather {
+    FAIR,   /* sendings end in any way */
+    ERRORS, /* hardly anything that is sent gets through: the way to bus off */
+    ALONE   /* hardly anything that is sent is acknowledged */
+} weather;
 
 /* xorshift64*: Vigna, "An experimental exploration of Marsaglia's xorshift generators". */
 static uint32_t any_word(void)
@@ -29,7 +33,7 @@ static uint32_t any_word(void)
 void seed_generator(uint64_t seed)
 {
     state = seed * UINT64_C(0x9E3779B97F4A7C15) | 1;
-    bad_weather = 0;
+    weather = FAIR;
     for (int i = 0; i < 8; i++)
         any_word();
 }
@@ -193,7 +197,7 @@ static struct event any_operation(const uint8_t *image)
     if (kind < 110) return any_register_write();
     if (kind < 125) return write_register(TRS, any_flags());
     if (kind < 160) return start();
-    if (kind < 163) return outcome((int)draw(3));
+    if (kind < 163) return outcome((int)draw(4));
     if (kind < 173) return any_mailbox_write(image, (int)draw(4));
     if (kind < 180) return receive_error(one_in(2) ? 1 : 8);
     if (kind < 185) return recessive();
@@ -205,9 +209,16 @@ static struct event any_operation(const uint8_t *image)
 
 static struct event any_outcome(void)
 {
-    if (bad_weather && !one_in(8))
-        return outcome(ERROR);
-    return outcome(one_in(3) ? SENT : (int)draw(3));
+    if (weather != FAIR && !one_in(8))
+        return outcome(weather == ERRORS ? ERROR : UNACKNOWLEDGED);
+    return outcome(one_in(3) ? SENT : (int)draw(4));
+}
+
+static enum weather any_weather(void)
+{
+    static const enum weather likely[] = {FAIR, FAIR, FAIR, ERRORS, ALONE};
+
+    return ONE_OF(likely);
 }
 
 /* Each state gets what moves it on, so that a run does not rest in one of them. */
@@ -216,7 +227,7 @@ static struct event next_event(const uint8_t *image)
     uint32_t present = word_of(image, MODE);
 
     if (one_in(300))
-        bad_weather = one_in(4);
+        weather = any_weather();
     if (present == CONFIGURATION && word_of(image, MC) == 0 && !one_in(40))
         return any_setup(image);
     if (present == CONFIGURATION && one_in(3))
@@ -225,11 +236,11 @@ static struct event next_event(const uint8_t *image)
         return mode(NORMAL_MODE);
     if (present == SLEEP && one_in(3))
         return one_in(2) ? mode(NORMAL_MODE) : any_frame();
-    if (word_of(image, SLOT) != EMPTY_SLOT && (bad_weather || one_in(3)))
+    if (word_of(image, SLOT) != EMPTY_SLOT && (weather != FAIR || one_in(3)))
         return any_outcome();
     if (word_of(image, TEC) == BUS_OFF_TEC && !one_in(8))
         return recessive();
-    if (bad_weather && one_in(2))
+    if (weather != FAIR && one_in(2))
         return start();
     return any_operation(image);
 }
@@ -238,13 +249,15 @@ static struct event event_of_any_operation(const uint8_t *image)
 {
     int word = MC + (int)draw(21);
 
+    if (word_of(image, SLOT) != EMPTY_SLOT && one_in(3))
+        return outcome((int)draw(5));
     switch (draw(16)) {
     case 0: return write_register(word, edge_value());
     case 1: return any_register_write();
     case 2: return any_mailbox_write(image, (int)draw(4));
     case 3: case 4: case 5: return any_frame();
     case 6: case 7: return start();
-    case 8: case 9: return outcome((int)draw(4));
+    case 8: case 9: return outcome((int)draw(5));
     case 10: return receive_error(one_in(2) ? 1 : 8);
     case 11: return recessive();
     case 12: return tick();
@@ -338,6 +351,15 @@ static void put_in_slot(uint8_t *image, uint32_t n)
     put(image, TRR, one_in(2) ? bit : 0);
 }
 
+/* On both sides of the line, by either counter. */
+static void put_near_passive(uint8_t *image)
+{
+    static const uint32_t recs[] = {0, 126, 127, 128, 129};
+
+    put(image, TEC, 119 + draw(18));
+    put(image, REC, ONE_OF(recs));
+}
+
 static void put_asleep(uint8_t *image)
 {
     static const int zero[] = {TEC, REC, TRS};
@@ -361,12 +383,16 @@ void good_image(uint8_t *image)
     put_flags(image);
     put_numbers(image);
     put(image, MODE, NORMAL_MODE);
-    switch (draw(8)) {
+    switch (draw(10)) {
     case 0: put(image, MODE, CONFIGURATION); return;
     case 1: put(image, MODE, SUSPEND); return;
     case 2: put_asleep(image); return;
     case 3: put_bus_off(image); break;
     case 4: case 5: put_in_slot(image, draw(31)); break;
+    case 6: case 7:
+        put_in_slot(image, draw(31));
+        put_near_passive(image);
+        break;
     default: return;
     }
     put(image, WAITING, 1 + draw(4)); /* with bus off or a filled slot, a mode may wait */

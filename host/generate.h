@@ -21,7 +21,10 @@ void draw_bytes(uint8_t *bytes, size_t len);
 /* An event for a run, which the image most likely accepts; one in ten is damaged. Answers its length. */
 size_t likely_event(uint8_t *event, const uint8_t *image);
 
-/* An event of any operation, whatever the state; one in ten is damaged. Answers its length. */
+/*
+ * An event of any operation, whatever the state, though outcomes come oftener where the slot is filled; one in
+ * ten is damaged. Answers its length.
+ */
 size_t varied_event(uint8_t *event, const uint8_t *image);
 
 /* A good image, built word by word. */
