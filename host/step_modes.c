@@ -162,6 +162,40 @@ static void late_sleep(void)
     now({WAITING, SLEEP});
     answers(outcome(ERROR), 3, 0);
     now({SLOT, EMPTY_SLOT}, {WAITING, NO_MODE}, {MODE, SLEEP}, {TRS, 0}, {TEC, 0});
+
+    begin("late sleep, cancelled before, without acknowledgement", SENDING);
+    given({TRS, BIT(3) | BIT(9)}, {TEC, 120}, {REC, 60});
+    accept(mode(SLEEP));
+    now({WAITING, SLEEP});
+    accept(write_register(TRR, BIT(3)));
+    now({TRR, BIT(3)});
+    answers(outcome(UNACKNOWLEDGED), 3, 0);
+    now({SLOT, EMPTY_SLOT}, {WAITING, NO_MODE}, {MODE, SLEEP}, {TRS, 0}, {TRR, 0}, {AA, BIT(3)},
+        {TEC, 0}, {REC, 0}, {GIF, 0x12});
+}
+
+/* A missing acknowledgement never ends in bus off: what waits is taken, from passive at 255 too. */
+static void modes_of_a_lone_tool(void)
+{
+    static const uint32_t waiting[] = {CONFIGURATION, SLEEP, SUSPEND};
+    static const struct {
+        uint32_t before, after, gif;
+    } counts[] = {{127, 135, 2}, {128, 128, 0}, {255, 255, 0}};
+
+    for (size_t i = 0; i < COUNT(waiting) * COUNT(counts); i++) {
+        uint32_t taken = waiting[i % COUNT(waiting)];
+        size_t k = i / COUNT(waiting);
+
+        begin("a mode waits for nobody's acknowledgement", SENDING);
+        given({TEC, counts[k].before}, {REC, 12});
+        accept(mode(taken));
+        now({WAITING, taken});
+        answers(outcome(UNACKNOWLEDGED), 3, 0);
+        now({SLOT, EMPTY_SLOT}, {WAITING, NO_MODE}, {MODE, taken}, {TEC, counts[k].after},
+            {GIF, counts[k].gif});
+        if (taken == SLEEP)
+            now({TEC, 0}, {REC, 0}, {TRS, 0});
+    }
 }
 
 /* An error to bus off keeps the mode waiting; the 128th eleven takes it (D42). */
@@ -283,6 +317,7 @@ void step_modes(void)
     woken_by_a_frame();
     waiting_modes();
     late_sleep();
+    modes_of_a_lone_tool();
     modes_wait_in_bus_off();
     ticks();
     resets();

@@ -78,7 +78,7 @@ static void refusal_2(void)
         refuse(write_mailbox(n, 0, 0), 2);
     for (int k = 4; k <= 255; k++)
         refuse(write_mailbox(0, k, 0), 2);
-    for (int how = 3; how <= 255; how++)
+    for (int how = 4; how <= 255; how++)
         refuse(outcome(how), 2);
 }
 
@@ -96,7 +96,7 @@ static void refusal_2_wins(void)
     refuse(with_byte(write_register(RML, 0xFFFFFFFF), 3, 1), 2);
     refuse(with_byte(write_mailbox(33, 1, 0x20), 15, 1), 2);
     refuse(write_mailbox(0, 5, 0xFFFFFFFF), 2);
-    refuse(with_byte(outcome(3), 2, 1), 2); /* and 7: the slot is empty */
+    refuse(with_byte(outcome(4), 2, 1), 2); /* and 7: the slot is empty */
     refuse(with_byte(plain_event(11, 1, 1, 1), 3, 1), 2);
     begin("2 and 5", SENDING);
     refuse(write_mailbox(3, 4, 0), 2);
@@ -104,7 +104,8 @@ static void refusal_2_wins(void)
     given({MC, 8});
     refuse(write_mailbox(3, 255, 0), 2);
     begin("2 and 7", NORMAL);
-    refuse(outcome(3), 2);
+    refuse(outcome(4), 2);
+    refuse(outcome(255), 2);
 }
 
 /* Refusal 3 is for operations 0, 1 and 9 alone, and stands before 4 and 6. */
@@ -167,6 +168,7 @@ static void refusal_4_wins(void)
     begin("4 and 7", NORMAL);
     refuse(with_byte(outcome(SENT), 2, 1), 4);
     refuse(with_byte(outcome(ERROR), 4, 1), 4);
+    refuse(with_byte(outcome(UNACKNOWLEDGED), 15, 1), 4);
 }
 
 /* Refusal 5 stands before 6. */
@@ -189,7 +191,7 @@ static void refusal_7(void)
 
     for (size_t i = 0; i < COUNT(empty); i++) {
         begin("an outcome with an empty slot", empty[i]);
-        for (int how = SENT; how <= ERROR; how++)
+        for (int how = SENT; how <= UNACKNOWLEDGED; how++)
             refuse(outcome(how), 7);
     }
     begin("an outcome in suspend", FRESH);
@@ -257,7 +259,7 @@ static void unused_bytes(struct usage u)
 /* The same of outcomes, which need a filled slot, and are accepted as they stand. */
 static void unused_bytes_of_outcomes(void)
 {
-    for (int how = SENT; how <= ERROR; how++) {
+    for (int how = SENT; how <= UNACKNOWLEDGED; how++) {
         begin("unused bytes of an outcome", SENDING);
         for (int i = 2; i < EVENT_BYTES; i++)
             refuse(with_byte(outcome(how), i, 1), 4);

@@ -226,6 +226,18 @@ static void not_sent(void)
     now({SLOT, EMPTY_SLOT}, {TEC, 28});
     answers(start(), 3, 0);
     now({SLOT, 3});
+    being_sent("no acknowledgement");
+    given({MBIM, 0xFFFFFFFF});
+    answers(outcome(UNACKNOWLEDGED), 3, 0);
+    now({SLOT, EMPTY_SLOT}, {TEC, 28});
+    answers(start(), 3, 0);
+    now({SLOT, 3});
+    being_sent("no acknowledgement, passive");
+    given({MBIM, 0xFFFFFFFF}, {TEC, 200});
+    answers(outcome(UNACKNOWLEDGED), 3, 0);
+    now({SLOT, EMPTY_SLOT});
+    answers(start(), 3, 0);
+    now({SLOT, 3});
 }
 
 /* Aborts: the three cases of the manual's 4.2.8; (a) is under "Writing". */
@@ -243,6 +255,18 @@ static void aborts(void)
     now({TRR, BIT(3)});
     answers(outcome(ERROR), 3, 0);
     now({SLOT, EMPTY_SLOT}, {TRR, 0}, {TRS, BIT(8)}, {AA, BIT(3)}, {GIF, 0x10}, {TEC, 28});
+    being_sent("(b) cancelled, no acknowledgement");
+    given({TEC, 120});
+    accept(write_register(TRR, BIT(3)));
+    now({TRR, BIT(3)});
+    answers(outcome(UNACKNOWLEDGED), 3, 0);
+    now({SLOT, EMPTY_SLOT}, {TRR, 0}, {TRS, BIT(8)}, {AA, BIT(3)}, {GIF, 0x12}, {TEC, 128});
+    being_sent("(b) cancelled, no acknowledgement, passive");
+    given({REC, 128});
+    accept(write_register(TRR, BIT(3)));
+    now({TRR, BIT(3)});
+    answers(outcome(UNACKNOWLEDGED), 3, 0);
+    now({SLOT, EMPTY_SLOT}, {TRR, 0}, {TRS, BIT(8)}, {AA, BIT(3)}, {GIF, 0x10});
     being_sent("(c) cancelled, but sent");
     given({MBIM, BIT(3)});
     accept(write_register(TRR, BIT(3)));
@@ -286,27 +310,54 @@ static void outcomes_of_each_mailbox(int n)
     now({TRR, BIT(n)});
     answers(outcome(ARBITRATION_LOST), n, 0);
     now({SLOT, EMPTY_SLOT}, {TRR, 0}, {TRS, others}, {AA, BIT(n)}, {GIF, 0x10});
+    begin("no acknowledgement at each mailbox", NORMAL);
+    given({SLOT, (uint32_t)n}, {TRS, 0x7FFFFFFF}, {MC, 0x7FFFFFFF}, {MBIM, 0xFFFFFFFF}, {TSC, 9});
+    answers(outcome(UNACKNOWLEDGED), n, 0);
+    now({SLOT, EMPTY_SLOT}, {TEC, 8});
 }
 
 /* ---- the send error counter, and GIF bits 2, 1, 0 */
 
+struct count {
+    uint32_t before, rec, after, gif;
+};
+
+static void counted(const char *name, int how, const struct count *counts, size_t count)
+{
+    for (size_t i = 0; i < count; i++) {
+        begin(name, SENDING);
+        given({TEC, counts[i].before}, {REC, counts[i].rec});
+        answers(outcome(how), 3, 0);
+        now({SLOT, EMPTY_SLOT}, {TEC, counts[i].after}, {GIF, counts[i].gif});
+    }
+}
+
 static void send_counter(void)
 {
-    static const struct {
-        uint32_t before, rec, after, gif;
-    } errors[] = {
+    static const struct count errors[] = {
         {0, 0, 8, 0},       {88, 0, 96, 0},     {89, 0, 97, 1},     {90, 0, 98, 1},   {96, 0, 104, 1},
         {97, 0, 105, 0},    {119, 0, 127, 0},   {120, 0, 128, 2},   {127, 0, 135, 2}, {128, 0, 136, 0},
         {246, 0, 254, 0},   {247, 0, 255, 0},   {248, 0, 256, 4},   {249, 0, 256, 4}, {255, 0, 256, 4},
         {90, 97, 98, 0},    {120, 128, 128, 0}, {120, 127, 128, 2}, {90, 96, 98, 1},  {248, 255, 256, 4},
     };
 
-    for (size_t i = 0; i < COUNT(errors); i++) {
-        begin("TEC after an error", SENDING);
-        given({TEC, errors[i].before}, {REC, errors[i].rec});
-        answers(outcome(ERROR), 3, 0);
-        now({SLOT, EMPTY_SLOT}, {TEC, errors[i].after}, {GIF, errors[i].gif});
-    }
+    counted("TEC after an error", ERROR, errors, COUNT(errors));
+}
+
+/* Request b) of document 02: passive by either counter, as it was before, keeps TEC. */
+static void send_counter_without_acknowledgement(void)
+{
+    static const struct count unacknowledged[] = {
+        {0, 0, 8, 0},       {1, 0, 9, 0},       {88, 0, 96, 0},     {89, 0, 97, 1},     {97, 0, 105, 0},
+        {119, 0, 127, 0},   {120, 0, 128, 2},   {126, 0, 134, 2},   {127, 0, 135, 2},   {128, 0, 128, 0},
+        {129, 0, 129, 0},   {135, 0, 135, 0},   {136, 0, 136, 0},   {247, 0, 247, 0},   {248, 0, 248, 0},
+        {255, 0, 255, 0},   {90, 96, 98, 1},    {90, 97, 98, 0},    {0, 127, 8, 0},     {0, 128, 0, 0},
+        {0, 255, 0, 0},     {88, 128, 88, 0},   {119, 127, 127, 0}, {119, 128, 119, 0}, {120, 127, 128, 2},
+        {120, 128, 120, 0}, {127, 127, 135, 2}, {127, 128, 127, 0}, {128, 127, 128, 0}, {128, 128, 128, 0},
+        {255, 255, 255, 0},
+    };
+
+    counted("TEC without an acknowledgement", UNACKNOWLEDGED, unacknowledged, COUNT(unacknowledged));
 }
 
 static void send_counter_falls(void)
@@ -379,7 +430,7 @@ static void flags_rise_once(void)
     now({REC, 135}, {GIF, 2}); /* passive again; the warning has lasted */
 }
 
-/* A lone sender goes bus off with its 32nd error, and passes warning and passive on the way. */
+/* Errors take a sender to bus off with the 32nd, and past warning and passive on the way. */
 static void errors_to_bus_off(void)
 {
     begin("32 errors", SENDING);
@@ -399,6 +450,67 @@ static void errors_to_bus_off(void)
     reads(GSR, 0x1F007);
     accept(start());
     refuse(outcome(ERROR), 7);
+}
+
+/* A tool that nobody acknowledges is passive from its 16th try on, and stays so; errors count as ever. */
+static void alone_on_the_bus(void)
+{
+    begin("100 tries without an acknowledgement", SENDING);
+    for (uint32_t tries = 1; tries <= 100; tries++) {
+        answers(outcome(UNACKNOWLEDGED), 3, 0);
+        now({SLOT, EMPTY_SLOT}, {TEC, tries < 16 ? 8 * tries : 128});
+        if (tries == 13)
+            now({GIF, 1}); /* 104 */
+        if (tries == 16)
+            now({GIF, 3}); /* 128 */
+        answers(start(), 3, 0);
+        now({SLOT, 3});
+    }
+    reads(GSR, 0x3403);
+    for (uint32_t errors = 1; errors <= 16; errors++) {
+        answers(outcome(ERROR), 3, 0);
+        now({SLOT, EMPTY_SLOT}, {TEC, 128 + 8 * errors});
+        if (errors == 16)
+            break;
+        answers(start(), 3, 0);
+        now({SLOT, 3});
+    }
+    now({GIF, 7});
+    reads(GSR, 0x1F007);
+}
+
+/* One acknowledgement makes it error active again, and the next that is missing counts. */
+static void acknowledged_once(void)
+{
+    begin("sent once, and alone again", SENDING);
+    given({TEC, 128}, {TRS, BIT(3) | BIT(8)}, {MC, BIT(3) | BIT(8)});
+    answers(outcome(SENT), 3, 0);
+    now({SLOT, EMPTY_SLOT}, {TRS, BIT(8)}, {TA, BIT(3)}, {TEC, 127});
+    reads(GSR, 0x1F001);
+    answers(start(), 8, 0);
+    now({SLOT, 8});
+    answers(outcome(UNACKNOWLEDGED), 8, 0);
+    now({SLOT, EMPTY_SLOT}, {TEC, 135}, {GIF, 2});
+    reads(GSR, 0x1F003);
+    answers(start(), 8, 0);
+    now({SLOT, 8});
+    answers(outcome(UNACKNOWLEDGED), 8, 0);
+    now({SLOT, EMPTY_SLOT});
+}
+
+/* Passive by REC alone; a frame that is heard ends it. */
+static void passive_as_receiver(void)
+{
+    begin("passive by REC, then not", SENDING);
+    given({REC, 200});
+    answers(outcome(UNACKNOWLEDGED), 3, 0);
+    now({SLOT, EMPTY_SLOT});
+    answers(data_frame(STANDARD(1), 0, 0), NOBODY, 0);
+    now({REC, 127});
+    answers(start(), 3, 0);
+    now({SLOT, 3});
+    answers(outcome(UNACKNOWLEDGED), 3, 0);
+    now({SLOT, EMPTY_SLOT}, {TEC, 8});
 }
 
 /* ---- bus off and the way back */
@@ -456,10 +568,14 @@ void step_sending(void)
     for (int n = 0; n < 31; n++)
         outcomes_of_each_mailbox(n);
     send_counter();
+    send_counter_without_acknowledgement();
     send_counter_falls();
     one_condition_over_both();
     flags_rise_once();
     errors_to_bus_off();
+    alone_on_the_bus();
+    acknowledged_once();
+    passive_as_receiver();
     recovery();
     elevens_elsewhere();
 }
