@@ -4,7 +4,7 @@
  * Each trace is told as it is, with some of its bytes changed, and with events repeated; random bytes are told as well.
  * The books must balance and agree with the image, every frame that came to nobody, every refusal, every step and every
  * word that changed must be told, each refusal must have a reason that fits it, and so must each frame that no mailbox
- * took.
+ * took, and each missing acknowledgement that TEC does not count.
  * host/test_sanitized runs it under the compiler's sanitizers, on the machine's own processor.
  */
 #define _XOPEN_SOURCE 700 /* fork, waitpid and pipe beside C99 */
@@ -114,6 +114,32 @@ static void check_idle(const struct run *r, int step, const char *name)
     check(unchanged || !t.length, "%s, step %d: %s", name, step, t.length ? t.at : "");
     check(!unchanged || !always || t.length, "%s, step %d: nothing says why nothing changes", name, step);
     text_free(&t);
+}
+
+static int kept; /* how often a drawn unit kept its TEC */
+
+/*
+ * That TEC stays is said of a missing acknowledgement alone, and only where it does; and wherever it does, but in a unit
+ * that falls asleep, where 0 may stand for 0 by chance.
+ */
+static void check_kept_tec(const uint8_t *before, const uint8_t *event, uint64_t answer, const uint8_t *after,
+                           const char *name)
+{
+    uint32_t tec = frostsorrel_register_word(before, FROSTSORREL_TEC);
+    int stays = event[0] == FROSTSORREL_OUTCOME && event[1] == FROSTSORREL_UNACKNOWLEDGED &&
+                frostsorrel_register_word(after, FROSTSORREL_TEC) == tec;
+    int asleep = frostsorrel_register_word(after, FROSTSORREL_WORD_MODE) == FROSTSORREL_SLEEP;
+    struct text answered = {0}, words = {0};
+    const char *said;
+
+    say_answer(&answered, before, event, answer);
+    text_add(&words, ", TEC stays at %lu: the unit is passive", wide(tec));
+    said = answered.length ? strstr(answered.at, ", TEC ") : 0;
+    check(!said || (stays && strcmp(said, words.at) == 0), "%s: TEC was %lu: %s", name, wide(tec), said);
+    check(said || !stays || asleep, "%s: nothing says that TEC stays at %lu", name, wide(tec));
+    kept += said != 0;
+    text_free(&answered);
+    text_free(&words);
 }
 
 static void check_missed(const struct run *r, const char *name)
@@ -289,8 +315,11 @@ static void check_told(const struct run *r, const char *name)
     int refused = check_refusals(r, name);
     struct text text = {0}, page = {0};
 
-    for (int k = 1; k <= r->steps; k++)
+    for (int k = 1; k <= r->steps; k++) {
         check_idle(r, k, name);
+        if (refusal_of(r, k) == FROSTSORREL_ACCEPTED)
+            check_kept_tec(r->image[k - 1], r->step[k].event, r->step[k].answer, r->image[k], name);
+    }
     check_missed(r, name);
     check_changes(r, name);
     write_text(&text, r, name);
@@ -377,15 +406,19 @@ static void check_any_bytes(void)
 static void check_any_image(void)
 {
     uint8_t image[FROSTSORREL_IMAGE_BYTES], before[FROSTSORREL_IMAGE_BYTES], event[LONGEST_EVENT];
+    uint64_t answer;
     uint32_t refusal;
 
     good_image(image);
     memcpy(before, image, sizeof before);
     if (varied_event(event, image) != FROSTSORREL_EVENT_BYTES)
         return;
-    refusal = frostsorrel_answer_refusal(frostsorrel_step(image, sizeof image, event, FROSTSORREL_EVENT_BYTES));
+    answer = frostsorrel_step(image, sizeof image, event, FROSTSORREL_EVENT_BYTES);
+    refusal = frostsorrel_answer_refusal(answer);
     if (refusal != FROSTSORREL_ACCEPTED)
         check_reason(before, event, refusal, "any image");
+    else
+        check_kept_tec(before, event, answer, image, "any image");
 }
 
 int main(int argc, char **argv)
@@ -398,5 +431,6 @@ int main(int argc, char **argv)
         check_any_bytes();
     for (int i = 0; i < 20000; i++)
         check_any_image();
+    check(kept > 0, "no drawn unit kept its TEC");
     return report("host report");
 }

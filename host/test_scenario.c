@@ -125,8 +125,8 @@ static void met(void)
 {
     static const char *const forms[] = {
         "mailbox", "write", "send", "abort", "release", "options", "frame 0x", "frame ext", "remote 0x",
-        "remote ext", "start", "outcome sent", "outcome lost", "outcome error", "receive error 1",
-        "receive error 8", "recessive", "tick", "mode normal", "mode suspend", "reset", "raw"};
+        "remote ext", "start", "outcome sent", "outcome lost", "outcome error", "outcome unacknowledged",
+        "receive error 1", "receive error 8", "recessive", "tick", "mode normal", "mode suspend", "reset", "raw"};
 
     for (size_t i = 0; i < COUNT(forms); i++) {
         struct text line = {0};
@@ -156,7 +156,8 @@ static const char scenario[] =
     "mailboxes:\nmailbox 2 sends 0x710 dlc 3 : 02 11 11\nmailbox 5 receives 0x718 # answers\n"
     "mailbox 7 replies ext 0x1FFFFFFF : 0102030405060708\nmailbox 9 word 0 = 1 << 31 | 0x20 x 2\n"
     "registers:\nwrite bcr2 = 0x25\nenable 2 5\noptions 3\nwrite 32 = 4294967295\n"
-    "events:\nmode normal\nsend 2 7\nstart\noutcome sent\nframe 0x718 : 03 7F 11 22\nframe ext 0x1 x 3\n"
+    "events:\nmode normal\nsend 2 7\nstart\noutcome sent\nstart\noutcome unacknowledged\n"
+    "frame 0x718 : 03 7F 11 22\nframe ext 0x1 x 3\n"
     "remote 0x100 dlc 2\nrelease 5\nabort 2\ntick x 700\nrecessive x 128\nreceive error 8\nreset\n"
     "raw 0b 00 00 00 00 00 00 00 00 00 00 00 00 00 00 00\n";
 

@@ -128,6 +128,7 @@ static int enters_sleep(const uint8_t *before, const uint8_t *event)
                word_of(before, FROSTSORREL_WORD_MODE) == FROSTSORREL_NORMAL &&
                word_of(before, FROSTSORREL_WORD_SLOT) == FROSTSORREL_EMPTY_SLOT && tec < FROSTSORREL_BUS_OFF_TEC;
     case FROSTSORREL_OUTCOME:
+        /* in bus off it waits on, and to that an error alone can lead: unacknowledged, TEC rises from 127 at most */
         return waits && (event[1] != FROSTSORREL_ERROR || tec + 8 < FROSTSORREL_BUS_OFF_TEC);
     case FROSTSORREL_ELEVEN_RECESSIVE:
         return waits && tec == FROSTSORREL_BUS_OFF_TEC && word_of(before, FROSTSORREL_WORD_RECOVERY) == 127;

@@ -484,16 +484,16 @@ static void read_plain(struct reader *r)
     follow(r, r->events[0]);
 }
 
+const char *const outcome_words[OUTCOMES] = {"sent", "lost", "error", "unacknowledged"};
+
 static void read_outcome(struct reader *r)
 {
-    if (takes(r, "sent"))
-        add_plain(r, FROSTSORREL_OUTCOME, FROSTSORREL_SENT, 0);
-    else if (takes(r, "lost"))
-        add_plain(r, FROSTSORREL_OUTCOME, FROSTSORREL_ARBITRATION_LOST, 0);
-    else if (takes(r, "error"))
-        add_plain(r, FROSTSORREL_OUTCOME, FROSTSORREL_ERROR, 0);
-    else
-        unexpected(r);
+    for (uint8_t how = 0; how < OUTCOMES; how++)
+        if (takes(r, outcome_words[how])) {
+            frostsorrel_outcome(new_event(r), how);
+            return;
+        }
+    unexpected(r);
 }
 
 static void read_receive(struct reader *r)

@@ -5,6 +5,10 @@
 #include "lines.h"
 #include "trace.h"
 
+/* How the language calls the outcomes, by their numbers. */
+enum { OUTCOMES = FROSTSORREL_UNACKNOWLEDGED + 1 };
+extern const char *const outcome_words[OUTCOMES];
+
 /* Makes a trace of a scenario. The trace is for nothing where the lines have faults. */
 void make_trace(struct lines *scenario, struct text *trace);
 

@@ -30,7 +30,7 @@ static void closest(uint8_t *into, const uint8_t *event)
     else if (operation == FROSTSORREL_FRAME)
         frostsorrel_data_frame(into, identifier, dlc, event + 8);
     else if (operation == FROSTSORREL_OUTCOME)
-        frostsorrel_event(into, operation, target % 3, 0, 0);
+        frostsorrel_outcome(into, target % OUTCOMES);
     else if (operation == FROSTSORREL_RECEIVE_ERROR)
         frostsorrel_event(into, operation, 0, 0, value == 1 ? 1 : 8);
     else if (operation == FROSTSORREL_MODE || operation == FROSTSORREL_OPTIONS)
@@ -75,7 +75,6 @@ static void write_frame(struct text *t, const uint8_t *event)
 
 static void write_known(struct text *t, const uint8_t *event)
 {
-    static const char *const outcomes[] = {"sent", "lost", "error"};
     uint32_t value = frostsorrel_event_value(event);
 
     switch (event[0]) {
@@ -83,7 +82,7 @@ static void write_known(struct text *t, const uint8_t *event)
     case FROSTSORREL_WRITE_MAILBOX: text_add(t, "mailbox %d word %d = 0x%08lX", event[1], event[2], wide(value)); break;
     case FROSTSORREL_FRAME: write_frame(t, event); break;
     case FROSTSORREL_START: text_add(t, "start"); break;
-    case FROSTSORREL_OUTCOME: text_add(t, "outcome %s", outcomes[event[1]]); break;
+    case FROSTSORREL_OUTCOME: text_add(t, "outcome %s", outcome_words[event[1]]); break;
     case FROSTSORREL_RECEIVE_ERROR: text_add(t, "receive error %lu", wide(value)); break;
     case FROSTSORREL_ELEVEN_RECESSIVE: text_add(t, "recessive"); break;
     case FROSTSORREL_TICK: text_add(t, "tick"); break;

@@ -180,7 +180,7 @@ void say_event(struct text *t, const uint8_t *event)
         say_frame(t, event);
         break;
     case FROSTSORREL_OUTCOME:
-        if (event[1] <= FROSTSORREL_ERROR)
+        if (event[1] <= FROSTSORREL_UNACKNOWLEDGED)
             text_add(t, "outcome %s", frostsorrel_outcome_name(event[1]));
         else
             text_add(t, "outcome %d", event[1]);
@@ -226,6 +226,20 @@ static void say_idle(struct text *t, const char *state, uint8_t operation)
         text_add(t, "the time stamp counter stands still in sleep");
 }
 
+/*
+ * Where nobody acknowledged, a unit that was passive keeps its TEC (document 02, b). A change that does not come shows
+ * nowhere else, so it is said; not where sleep waits, which makes TEC 0 in the same step.
+ */
+static void say_kept_tec(struct text *t, const uint8_t *before, const uint8_t *event)
+{
+    uint32_t tec = frostsorrel_register_word(before, FROSTSORREL_TEC);
+    int is_unacknowledged = event[0] == FROSTSORREL_OUTCOME && event[1] == FROSTSORREL_UNACKNOWLEDGED;
+    int sleep_waits = frostsorrel_register_word(before, FROSTSORREL_WORD_WAITING) == FROSTSORREL_SLEEP;
+
+    if (is_unacknowledged && !sleep_waits && strcmp(error_state(before), "passive") == 0)
+        text_add(t, ", TEC stays at %lu: the unit is passive", wide(tec));
+}
+
 /* An answer is told as it is. Where it names no mailbox the state may say why. */
 void say_answer(struct text *t, const uint8_t *before, const uint8_t *event, uint64_t answer)
 {
@@ -240,6 +254,7 @@ void say_answer(struct text *t, const uint8_t *before, const uint8_t *event, uin
         say_idle(t, state_of(before), event[0]);
     if (is_frame)
         text_add(t, ", %lu compared", (unsigned long)frostsorrel_answer_count(answer));
+    say_kept_tec(t, before, event);
 }
 
 /*

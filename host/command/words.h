@@ -8,7 +8,10 @@
 /* "frame 0x718 data 03 7F 11 22", "write RMP = 0x20: mailbox 5" */
 void say_event(struct text *t, const uint8_t *event);
 
-/* What an accepted step answers: "mailbox 5, 1 compared"; nothing where there is nothing to say. */
+/*
+ * What an accepted step answers, "mailbox 5, 1 compared", and what does not happen in it, "mailbox 0, TEC stays at 128:
+ * the unit is passive"; nothing where there is nothing to say.
+ */
 void say_answer(struct text *t, const uint8_t *before, const uint8_t *event, uint64_t answer);
 
 /* Why this step was refused: "mailbox 5 is enabled (MC), so its word 0 is fixed". */
