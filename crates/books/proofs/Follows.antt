@@ -45,12 +45,6 @@ module _ {P : Block → Type 0} where
         keeps = λ k. q .keeps (p .keeps k);
       }
 
-  -- a choice between two blocks, by the same test as between the happenings
-  pub choice : (m : ℕ) (a b c : Block) (l r : List Happening) (t : Bool) → (t ≡ true → Follows P m a b l) → (t ≡ false → Follows P m a c r)
-      → Follows P m a (cond t b c) (cond t l r)
-  choice m a b c l r true p q = p refl
-  choice m a b c l r false p q = q refl
-
   pub table : (m : ℕ) (a : Block) (l : List Block) (r : List (List Happening)) → Rows P m a l r → (t : ℕ) → Follows P m a (getD l t a) (getD r t [])
   table m a [] [] f t = none m a a refl (λ k. k)
   table m a [] (h ∷ r) f t = absurd f

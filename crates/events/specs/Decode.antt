@@ -14,7 +14,7 @@ use Rattle.events.specs.Parts.{eventBytes, operation, target, word, valu
 abbrev pub writable : ℕ → Bool
 writable t = leb t 19 && not (eqb t 7) && not (eqb t 10)
 
--- Sending: the outcomes are sent, arbitration lost, error and, by document 02, b), no acknowledgement.
+-- The events, operation 4: the outcomes are 0 sent, 1 arbitration lost, 2 error and, by document 02, b), 3 no acknowledgement.
 abbrev pub lastOutcome : ℕ
 lastOutcome = 3
 

@@ -27,10 +27,6 @@ word e = getD e 2 0
 abbrev pub value : List ℕ → ℕ
 value e = wordAt e 4
 
--- An event without word and data bytes, whose value is below 256: what runs and single steps are written out with.
-abbrev pub plainEvent : ℕ → ℕ → ℕ → List ℕ
-plainEvent op target value = op ∷ target ∷ 0 ∷ 0 ∷ value ∷ 0 ∷ 0 ∷ 0 ∷ 0 ∷ 0 ∷ 0 ∷ 0 ∷ 0 ∷ 0 ∷ 0 ∷ 0 ∷ []
-
 -- The eight data bytes as one number, the first lowest.
 abbrev pub payload : List ℕ → ℕ
 payload e = wordAt e 8 + 2 ^ 32 * wordAt e 12
@@ -60,3 +56,7 @@ frameBytes e = dataBytes (bit (value e) 30) (target e)
 unfoldable pub frameAllowed : List ℕ → Bool
 frameAllowed e =
     every (leb (target e) longest ∷ not (bit (value e) 29) ∷ (bit (value e) 31 || eqb (value e % 2 ^ 18) 0) ∷ [])
+
+-- An event whose word and data bytes are zero, and its value one byte: single steps and runs are written out with it.
+abbrev pub plainEvent : ℕ → ℕ → ℕ → List ℕ
+plainEvent op target value = op ∷ target ∷ 0 ∷ 0 ∷ value ∷ 0 ∷ 0 ∷ 0 ∷ 0 ∷ 0 ∷ 0 ∷ 0 ∷ 0 ∷ 0 ∷ 0 ∷ 0 ∷ []

@@ -10,6 +10,7 @@ use borrow.Author.Tests.{eqb-true, eqb-false, ltb-true, ltb-false, leb-true, leb
 use Rattle.bits.specs.Bit.{digit, bit}
 use Rattle.bits.specs.Below.{allBelow}
 use Rattle.bits.proofs.Below.{each-below}
+use Rattle.bits.proofs.Tests.{same-test}
 use Rattle.bits.proofs.Sets.{both, and-l, and-r, within-le, or-within-l, or-within-r}
 use Rattle.good.specs.Sums.{Stretch}
 
@@ -54,12 +55,6 @@ control-test w = at (eqb (w / 32 % 2048) 0) refl (leb (w % 16) 8) refl
         le-ltb _ _ l
 
 -- ---- two sums
-
--- two tests that hold together
-same-test : (a b : Bool) → (a ≡ true → b ≡ true) → (b ≡ true → a ≡ true) → a ≡ b
-same-test true b f g = sym (f refl)
-same-test false true f g = g refl
-same-test false false f g = refl
 
 -- `|` stays below a power of two where both numbers do
 pub or-ltb : (k a b : ℕ) → ltb (bitOr a b) (2 ^ k) ≡ (ltb a (2 ^ k) && ltb b (2 ^ k))

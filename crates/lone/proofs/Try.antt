@@ -1,43 +1,39 @@
--- A start and an error after it, from an image in which a mailbox waits to be sent.
-use Prim.Native.Nat.{ℕ, _+_, _<_, _≤_}
+-- A try: a start and an outcome after it, from an image in which a mailbox waits to be sent.
+use Prim.Native.Nat.{ℕ, zero, suc, _+_, _<_, _≤_}
 use mathlib.Core.Path.{_≡_, refl, sym, _∙_, ap, subst}
-use mathlib.Core.Bool.{Bool, true, false, not, _&&_, false≢true}
+use mathlib.Core.Bool.{true, false, cond, not, _&&_, _||_, and-false, false≢true}
 use mathlib.Core.List.{List, [], _∷_}
 use mathlib.Core.Logic.{_≢_}
 use native.Mathlib.Decide.{ℕ-discrete}
 use native.Mathlib.Omega.{arith}
-use lib.Dec.{eqb, lit<}
+use lib.Dec.{eqb, ltb, lit<, lit≤}
+use lib.ListN.{replicate}
 use borrow.Author.Tests.{ne-eqb, lt-ltb, le-ltb, not-true}
 use Rattle.bits.proofs.Sets.{and-l, and-r}
 use Rattle.bits.specs.Below.{allBelow}
 use Rattle.words.specs.Word.{wordAt}
 use Rattle.words.specs.Bytes.{Bytes}
 use Rattle.words.proofs.Bytes.{bytes-nil, bytes-cons}
-use Rattle.good.proofs.Image.{image-good}
+use Rattle.answers.specs.Answer.{Outcome}
 use Rattle.events.specs.Parts.{plainEvent}
 use Rattle.model.specs.Step.{step}
-use Rattle.model.proofs.Kept.{step-good}
-use Rattle.rules.specs.Words.{Words, _has_, words, atMost, Only, MC, TRS, TRR, CDR, TEC, MODE, WAITING, SLOT}
+use Rattle.rules.specs.Words.{Words, _has_, words, atMost, Only, MC, TRS, TRR, CDR, TEC, REC, MODE, WAITING, SLOT}
 use Rattle.rules.specs.Image.{Good}
 use Rattle.rules.specs.Events.{Applies, not-good, is-unknown, is-asleep, not-allowed, is-busy, is-locked, slot-empty}
-use Rattle.rules.specs.Sending.{candidate, Unsent, Ending}
-use Rattle.rules.proofs.Good.{good-rule, rule-good}
-use Rattle.rules.proofs.Step.{step-meets}
+use Rattle.rules.specs.Sending.{candidate, Unsent, unacknowledgedTec, Ending}
+use Rattle.rules.specs.Step.{Does}
+use Rattle.rules.proofs.Step.{step-meets, good-step}
 use Rattle.lone.specs.Lone.{Ready}
+use Rattle.lone.proofs.Steps.{step-bytes}
 
 -- ---- the events, and good images
 
-pub plain-bytes : (op target : ℕ) → op < 256 → target < 256 → Bytes (plainEvent op target 0)
-plain-bytes op target h k = bytes-cons h (bytes-cons k (zero (zero (zero (zero (zero (zero (zero (zero (zero (zero (zero (zero (zero (zero bytes-nil)))))))))))))))
-  where
-    zero : {s : List ℕ} → Bytes s → Bytes (0 ∷ s)
-    zero b = bytes-cons (lit< tt) b
+zeros : (n : ℕ) → Bytes (replicate n 0)
+zeros zero = bytes-nil
+zeros (suc n) = bytes-cons (lit< tt) (zeros n)
 
--- a good image stays good
-good-after : (s e : List ℕ) → Bytes s → Bytes e → Good s → Bytes (step s e .image) × Good (step s e .image)
-good-after s e b y g =
-    let k = step-good s e b y (rule-good s b g) in
-    (k .bytes, good-rule _ (k .bytes) (image-good _ k))
+pub plain-bytes : (op target : ℕ) → op < 256 → target < 256 → Bytes (plainEvent op target 0)
+plain-bytes op target h k = bytes-cons h (bytes-cons k (zeros 14))
 
 -- what makes a candidate
 parts : (w : Words) (n : ℕ) → candidate w n ≡ true → (w TRS has n ≡ true) × (w MC has n ≡ true) × (w CDR has n ≡ false) × (w TRR has n ≡ false)
@@ -93,68 +89,79 @@ module _ (s : List ℕ) (n : ℕ) (r : Ready s n) (room : words s TEC < 256) whe
   named-sends m c e =
       false≢true (sym (r .good .registers .bit-31 TRS refl) ∙ ap (λ (j : ℕ). words s TRS has j) (sym e) ∙ parts (words s) m c .0)
 
--- ---- the error
+-- ---- the outcome
 
-module _ (s : List ℕ) (bytes : Bytes s) (good : Good s) (filled : words s SLOT ≢ 31) (calm : words s WAITING ≡ 4) where
-  abbrev error : List ℕ
-  error = plainEvent 4 2 0
+module _ (s : List ℕ) (bytes : Bytes s) (good : Good s) (filled : words s SLOT ≢ 31) (calm : words s WAITING ≡ 4) (k : ℕ) (known : k ≤ 3) where
+  abbrev outcome : List ℕ
+  outcome = plainEvent 4 k 0
 
-  error-free : (k : ℕ) → Applies s error k → ⊥
+  outcome-free : (r : ℕ) → Applies s outcome r → ⊥
   unfolding wordAt allBelow
-  error-free k (not-good e d) = d good
-  error-free k (is-unknown e d) = false≢true d
-  error-free k (is-asleep e d) = false≢true d
-  error-free k (not-allowed e d) = false≢true d
-  error-free k (is-busy e d) = false≢true d
-  error-free k (is-locked e d) = false≢true d
-  error-free k (slot-empty e d) = false≢true (sym (ne-eqb (words s SLOT) 31 filled) ∙ d)
+  outcome-free r (not-good e d) = d good
+  outcome-free r (is-unknown e d) = false≢true (sym (le-ltb 3 k known) ∙ d)
+  outcome-free r (is-asleep e d) = false≢true d
+  outcome-free r (not-allowed e d) = false≢true d
+  outcome-free r (is-busy e d) = false≢true d
+  outcome-free r (is-locked e d) = false≢true d
+  outcome-free r (slot-empty e d) = false≢true (sym (ne-eqb (words s SLOT) 31 filled) ∙ d)
 
-  fails : Unsent (atMost 256 (words s TEC + 8)) (words s) (words (step s error .image))
-  fails =
-      let p = step-meets s error bytes (plain-bytes 4 2 (lit< tt) (lit< tt)) .accepts error-free in
-      let u = p .does .error refl refl .0 in
-      let end = nothing-waits (p .middle) (words (step s error .image)) (p .ending) (u .rest WAITING refl ∙ calm) in
-      subst (Unsent (atMost 256 (words s TEC + 8)) (words s)) (λ i k. sym (end k refl) i) u
+  -- what it does by the rules, it leaves
+  fails : (t : ℕ) → ((now : Words) (o : Outcome) → Does s outcome (words s) now o → Unsent t (words s) now)
+      → Unsent t (words s) (words (step s outcome .image))
+  fails t by =
+      let p = step-meets s outcome bytes (plain-bytes 4 k (lit< tt) (omega arith)) .accepts outcome-free in
+      let u = by (p .middle) (step s outcome) (p .does) in
+      let end = nothing-waits (p .middle) (words (step s outcome .image)) (p .ending) (u .rest WAITING refl ∙ calm) in
+      subst (Unsent t (words s)) (λ i j. sym (end j refl) i) u
 
 -- who may be sent before it may be sent after it: its request is not cancelled
 may-again : (t n : ℕ) (was now : Words) → Unsent t was now → candidate was n ≡ true → candidate now n ≡ true
 may-again t n was now u c =
     let w = parts was n c in
-    let trs : now TRS has n ≡ true = u .trs n ∙ rw (w .0, w .3) (none (eqb n (was SLOT))) in
+    let trs : now TRS has n ≡ true = u .trs n ∙ rw (w .0, w .3, and-false (eqb n (was SLOT))) in
     let mc : now MC has n ≡ true = ap (λ (x : ℕ). x has n) (u .rest MC refl) ∙ w .1 in
     let cdr : now CDR has n ≡ false = ap (λ (x : ℕ). x has n) (u .rest CDR refl) ∙ w .2 in
     let trr : now TRR has n ≡ false = u .trr n ∙ rw (w .3) in
     rw (trs, mc, cdr, trr)
-  where
-    none : (a : Bool) → not (a && false) ≡ true
-    none true = refl
-    none false = refl
 
--- ---- both
+-- ---- both: a try
 
-module _ (s : List ℕ) (n : ℕ) (r : Ready s n) (room : words s TEC + 8 ≤ 256) where
-  abbrev first : List ℕ
-  first = step s (plainEvent 3 0 0) .image
+-- the image after the start, and after outcome k
+abbrev first : List ℕ → List ℕ
+first s = step s (plainEvent 3 0 0) .image
 
-  abbrev second : List ℕ
-  second = step first (plainEvent 4 2 0) .image
+abbrev pub second : List ℕ → ℕ → List ℕ
+second s k = step (first s) (plainEvent 4 k 0) .image
 
-  pub tried : Ready second n × (words second TEC ≡ words s TEC + 8)
-  tried =
-      let start = plain-bytes 3 0 (lit< tt) (lit< tt) in
-      let b = begins s n r (omega arith) in
+module _ (s : List ℕ) (n : ℕ) (r : Ready s n) (room : words s TEC < 256) where
+  -- the try leaves the tool ready for the next one; TEC is what the rule of the outcome makes of it, REC stays
+  tried : (k : ℕ) → k ≤ 3 → (tec : ℕ → ℕ → ℕ)
+      → ((s : List ℕ) (now : Words) (o : Outcome) → Does s (plainEvent 4 k 0) (words s) now o → Unsent (tec (words s TEC) (words s REC)) (words s) now)
+      → Ready (second s k) n × (words (second s k) TEC ≡ tec (words s TEC) (words s REC)) × (words (second s k) REC ≡ words s REC)
+  tried k known tec by =
+      let b = begins s n r room in
       let same = b .4 in
-      let g = good-after s _ (r .bytes) start (r .good) in
-      let sends : words first SLOT ≢ 31 = λ e. named-sends s n r (omega arith) (b .0) (b .2) (sym (b .3) ∙ e) in
-      let u = fails first (g .0) (g .1) sends (same WAITING refl ∙ none-waiting s n r (omega arith)) in
-      let h = good-after first _ (g .0) (plain-bytes 4 2 (lit< tt) (lit< tt)) (g .1) in
-      let c : candidate (words first) n ≡ true = rw (same TRS refl, same MC refl, same CDR refl, same TRR refl) (r .asks .1) in (
+      let y = plain-bytes 3 0 (lit< tt) (lit< tt) in
+      let bytes = step-bytes s _ (r .bytes) y in
+      let good = good-step s _ (r .bytes) y (r .good) in
+      let sends : words (first s) SLOT ≢ 31 = λ e. named-sends s n r room (b .0) (b .2) (sym (b .3) ∙ e) in
+      let u = fails (first s) bytes good sends (same WAITING refl ∙ none-waiting s n r room) k known _ (by (first s)) in
+      let z = plain-bytes 4 k (lit< tt) (omega arith) in
+      let c : candidate (words (first s)) n ≡ true = rw (same TRS refl, same MC refl, same CDR refl, same TRR refl) (r .asks .1) in (
         record {
-          bytes = h .0;
-          good = h .1;
+          bytes = step-bytes (first s) _ bytes z;
+          good = good-step (first s) _ bytes z good;
           normal = u .rest MODE refl ∙ same MODE refl ∙ r .normal;
           vacant = u .slot;
-          asks = (r .asks .0, may-again _ n (words first) (words second) u c);
+          asks = (r .asks .0, may-again _ n (words (first s)) (words (second s k)) u c);
         },
-        u .tec ∙ ap (λ (w : ℕ). atMost 256 (w + 8)) (same TEC refl) ∙ rw (le-ltb 256 (words s TEC + 8) room),
+        u .tec ∙ rw (same TEC refl, same REC refl),
+        u .rest REC refl ∙ same REC refl,
       )
+
+  pub error-tried : Ready (second s 2) n × (words (second s 2) TEC ≡ atMost 256 (words s TEC + 8)) × (words (second s 2) REC ≡ words s REC)
+  error-tried = tried 2 (lit≤ tt) (λ tec rec. atMost 256 (tec + 8)) (λ s now o d. d .error refl refl .0)
+
+  pub unacknowledged-tried : Ready (second s 3) n × (words (second s 3) TEC ≡ unacknowledgedTec (words s)) × (words (second s 3) REC ≡ words s REC)
+  unacknowledged-tried =
+      tried 3 (lit≤ tt) (λ tec rec. cond (ltb 127 tec || ltb 127 rec) tec (tec + 8)) (λ s now o d. d .unacknowledged refl refl .0)

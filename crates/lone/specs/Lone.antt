@@ -3,12 +3,12 @@ use Prim.Native.Nat.{ℕ, zero, suc, _+_, _*_, _<_, _≤_}
 use mathlib.Core.Path.{_≡_}
 use mathlib.Core.Bool.{true, false, cond}
 use mathlib.Core.List.{List, [], _∷_}
-use mathlib.Core.Logic.{_≢_, _⊎_}
+use mathlib.Core.Logic.{_⊎_}
 use Rattle.words.specs.Bytes.{Bytes}
 use Rattle.events.specs.Parts.{plainEvent}
 use Rattle.model.specs.Step.{step}
 use Rattle.books.specs.Happen.{run}
-use Rattle.rules.specs.Words.{words, _is_, TEC, MODE, WAITING, SLOT}
+use Rattle.rules.specs.Words.{words, _is_, atMost, TEC, REC, MODE, WAITING, SLOT}
 use Rattle.rules.specs.Image.{Good, busOff, passive}
 use Rattle.rules.specs.Events.{operation, target, Applies}
 use Rattle.rules.specs.Sending.{candidate}
@@ -34,12 +34,12 @@ pub record Ready (s : List ℕ) (n : ℕ) : Type 0 where
   pub vacant : words s SLOT ≡ 31
   pub asks : (n < 32) × (candidate (words s) n ≡ true)
 
--- Outcome 3, where it is accepted: TEC stays if the unit was passive before it, and rises by 8 if it was not. A sleep that waits is taken at
--- the end of the step and clears TEC.
+-- Outcome 3, where it is accepted: TEC stays if the unit was passive before it, and rises by 8 if it was not; a sleep that waits is taken at
+-- the end of the step and clears it.
 unfoldable pub Counts : Type 0
 Counts =
-    (s e : List ℕ) → Bytes s → Bytes e → operation e ≡ 4 → target e ≡ 3 → ((r : ℕ) → Applies s e r → ⊥) → words s WAITING ≢ 2
-    → words (step s e .image) TEC ≡ cond (passive (words s)) (words s TEC) (words s TEC + 8)
+    (s e : List ℕ) → Bytes s → Bytes e → operation e ≡ 4 → target e ≡ 3 → ((r : ℕ) → Applies s e r → ⊥)
+    → words (step s e .image) TEC ≡ cond (words s WAITING is 2) 0 (cond (passive (words s)) (words s TEC) (words s TEC + 8))
 
 -- Whatever the image is, starts and outcomes 3, in whatever order they come, do not take TEC to 256 if it was below.
 unfoldable pub Stays : Type 0
@@ -49,6 +49,10 @@ Stays = (s : List ℕ) → Bytes s → words s TEC < 256 → (l : List (List ℕ
 unfoldable pub Never : Type 0
 Never = (s : List ℕ) → Bytes s → words s TEC < 256 → (n : ℕ) → busOff (words (run s (tries 3 n))) ≡ false
 
+-- From TEC 0, with REC not above 127, the first 16 of them add 8 each, and then TEC stays at 128: the unit is passive, and is so for good.
+unfoldable pub Settles : Type 0
+Settles = (s : List ℕ) (m : ℕ) → Ready s m → words s TEC ≡ 0 → words s REC ≤ 127 → (n : ℕ) → words (run s (tries 3 n)) TEC ≡ atMost 128 (8 * n)
+
 -- With outcome 2, an error, each try adds 8, as long as there is room.
 unfoldable pub Rises : Type 0
 Rises = (s : List ℕ) (m : ℕ) → Ready s m → (n : ℕ) → words s TEC + 8 * n ≤ 256 → words (run s (tries 2 n)) TEC ≡ words s TEC + 8 * n
@@ -56,3 +60,7 @@ Rises = (s : List ℕ) (m : ℕ) → Ready s m → (n : ℕ) → words s TEC + 8
 -- So from TEC 0 the 32nd try leads to bus off, and none before it does.
 unfoldable pub Off : Type 0
 Off = (s : List ℕ) (m : ℕ) → Ready s m → words s TEC ≡ 0 → (n : ℕ) → n ≤ 32 → busOff (words (run s (tries 2 n))) ≡ n is 32
+
+-- There is such a tool: the last three statements are not about nothing.
+unfoldable pub Possible : Type 0
+Possible = (s : List ℕ) × Ready s 0 × (words s TEC ≡ 0) × (words s REC ≡ 0)

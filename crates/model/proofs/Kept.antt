@@ -15,7 +15,7 @@ use Rattle.registers.specs.Block.{blockOf, sleep, emptySlot}
 use Rattle.registers.specs.Status.{vacant, asleep}
 use Rattle.registers.specs.Modes.{onBus}
 use Rattle.registers.specs.Frames.{listened}
-use Rattle.registers.specs.Sending.{started, sent, failed, added, concluded}
+use Rattle.registers.specs.Sending.{started, added, concluded}
 use Rattle.mailboxes.specs.Mailbox.{mailboxes, mailbox, withMailbox, layout}
 use Rattle.mailboxes.specs.Filing.{filed, stamped}
 use Rattle.mailboxes.proofs.Laws.{length-mailbox, bytes-mailbox}
@@ -39,6 +39,7 @@ use Rattle.keeps.proofs.Open.{Open, good-open, risen-open, settled-good}
 use Rattle.keeps.proofs.Writes.{written-open}
 use Rattle.keeps.proofs.Modes.{ticked-open, recessive-open, optioned-open, worsened-open, asked-open, fresh-open}
 use Rattle.keeps.proofs.Frames.{listened-open, listened-awake, stored-open, replied-open}
+use Rattle.keeps.proofs.Words.{either}
 use Rattle.keeps.proofs.Sending.{started-open, sent-open, failed-open}
 use Rattle.refusals.specs.Refusal.{refusal, remaining}
 use Rattle.refusals.proofs.Order.{refusal-good}
@@ -87,11 +88,7 @@ module _ (s : List ℕ) where
           absurd (omega (arith, next-off s h))
 
   concludes : (k : ℕ) → GoodBlock (blockOf s) → blockOf s .slot ≢ emptySlot → Open (concluded (blockOf s) k)
-  concludes k g f = at (eqb k 0)
-    where
-      at : (t : Bool) → Open (cond t (sent (blockOf s)) (failed (blockOf s) (added (blockOf s) k)))
-      at true = sent-open g f
-      at false = failed-open g f (added (blockOf s) k)
+  concludes k g f = either Open (eqb k 0) (λ e. sent-open g f) (λ e. failed-open g f (added (blockOf s) k))
 
   pub acted-open : (v : Event) → Taken s v → Open (acted s v)
   unfolding own goes delivered remaining

@@ -49,6 +49,6 @@ failed b more =
 abbrev pub added : Block → ℕ → ℕ
 added b k = cond (eqb k 2 || eqb k 3 && not (passive b)) 8 0
 
--- Sending: what each outcome leaves.
+-- Sending: outcome 0 is sent; of every other number the request failed, and TEC rises by what is added.
 abbrev pub concluded : Block → ℕ → Block
 concluded b k = cond (eqb k 0) (sent b) (failed b (added b k))

@@ -52,14 +52,14 @@ impl Block {
         self
     }
 
-    // What an outcome other than sent adds to TEC.
+    // What an outcome adds to TEC: an error (2) 8, and so does a missing acknowledgement (3), unless the unit is passive.
     fn added(self, kind: u32) -> u32
         ensures { λ r. ⌜ r ≡ addedBy self kind ⌝ }
     {
         bits::choose((kind == 2) | ((kind == 3) & !self.is_passive()), 8, 0)
     }
 
-    // What an outcome leaves.
+    // What an outcome does: 0 is sent.
     pub fn conclude(self, kind: u32) -> Block
         requires { ⌜ (self .slot < 32) × (self .tec ≤ 256) ⌝ }
         ensures { λ r. ⌜ r ≡ concluded self kind ⌝ }

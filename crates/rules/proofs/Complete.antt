@@ -14,7 +14,7 @@ use Rattle.words.proofs.Bytes.{Bytes}
 use Rattle.registers.specs.Block.{blockOf}
 use Rattle.mailboxes.proofs.Spliced.{byteOf, word-byte}
 use Rattle.events.specs.Parts.{frameOf}
-use Rattle.events.specs.Decode.{event, eventAs}
+use Rattle.events.specs.Decode.{lastOutcome, event, eventAs}
 use Rattle.events.proofs.Allowed.{Allowed}
 use Rattle.filter.specs.Filter.{delivery}
 use Rattle.filter.proofs.Ways.{Way, off-bus, no-match, stored as way-stored, replied as way-replied, ignored as way-ignored, way}
@@ -26,11 +26,11 @@ use Rattle.answers.specs.Answer.{Outcome as Result}
 use Rattle.model.proofs.Kept.{Taken as TakenEvent, taken}
 use Rattle.rules.specs.Words.{Words, _has_, _is_, words, byte, box, BoxesStayBut, TRS, RMP, RML, RFP, MBRIF, GIF, REC, MODE, SLOT, OPTIONS}
 use Rattle.rules.specs.Image.{onBus}
-use Rattle.rules.specs.Events.{operation, target, word, value, rtr, Answers}
+use Rattle.rules.specs.Events.{operation, target, word, value, rtr}
 use Rattle.rules.specs.Writing.{BoxWrite}
 use Rattle.rules.specs.Receiving.{Stored, Frame}
-use Rattle.rules.specs.Sending.{candidate, key, Start, Unsent, Ending}
-use Rattle.rules.specs.Step.{stamped, Quiet, Does, Accepted}
+use Rattle.rules.specs.Sending.{candidate, key, Start, Ending}
+use Rattle.rules.specs.Step.{stamped, Quiet, Fails, Does, Accepted}
 use Rattle.rules.proofs.Outcomes.{outcome-by}
 use Rattle.rules.proofs.Blocks.{ofBlock, of-block, image-by}
 use Rattle.rules.proofs.Starting.{candidate-same}
@@ -239,11 +239,10 @@ module _ (s e : List ℕ) (a b : Words) (o u : Result) (bo : Bytes (o .image)) (
     outcome-both : operation e ≡ 4 → Both a b o u
     outcome-both h = at (target e) refl
       where
-        most : target e ≤ 3
+        most : target e ≤ lastOutcome
         most = subst Allowed (ap (λ (n : ℕ). eventAs n e) h) (t .fair)
 
-        unsent-both : (tec : ℕ) → Unsent tec was a × BoxesStayBut 32 s (o .image) × Answers (was SLOT) 0 o
-            → Unsent tec was b × BoxesStayBut 32 s (u .image) × Answers (was SLOT) 0 u → Both a b o u
+        unsent-both : (tec : ℕ) → Fails tec s was a o → Fails tec s was b u → Both a b o u
         unsent-both tec x y =
             record {
               same-words = unsent-one was a b tec (x .0) (y .0);

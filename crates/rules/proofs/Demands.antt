@@ -8,11 +8,9 @@ use native.Mathlib.Omega.{arith}
 use lib.ListN.{length}
 use Rattle.words.proofs.Bytes.{Bytes}
 use Rattle.answers.specs.Answer.{Outcome}
-use Rattle.good.proofs.Image.{image-good}
 use Rattle.fresh.specs.Fresh.{fresh, freshImage}
 use Rattle.fresh.proofs.Good.{fresh-facts, fresh-good}
 use Rattle.model.specs.Step.{step}
-use Rattle.model.proofs.Kept.{step-good}
 use Rattle.rules.specs.Words.{words, box, _has_, BoxesStayBut, MD}
 use Rattle.rules.specs.Image.{Good, onBus}
 use Rattle.rules.specs.Events.{operation, Applies, FirstRefusal}
@@ -20,9 +18,9 @@ use Rattle.rules.specs.Receiving.{First, Frame}
 use Rattle.rules.specs.Step.{Accepted}
 use Rattle.rules.specs.Calls.{FreshCall, StepCall}
 use Rattle.rules.specs.Demands.{Demand1, Demand2}
-use Rattle.rules.proofs.Good.{good-rule, rule-good}
+use Rattle.rules.proofs.Good.{good-rule}
 use Rattle.rules.proofs.Fresh.{filled, fresh-meets, fresh-one}
-use Rattle.rules.proofs.Step.{step-meets, rules-one, either}
+use Rattle.rules.proofs.Step.{step-meets, rules-one, stays-or-moves, good-step}
 use Rattle.rules.proofs.Calls.{step-call, step-unique}
 
 -- ---- demand 1
@@ -50,13 +48,12 @@ module _ (s e x : List ℕ) (a : ℕ) (bytes : Bytes s) (small : Bytes e) (c : S
 
   pub stays-good : Good s → Good x
   stays-good g =
-      let h = step-good s e bytes small (rule-good s bytes g) in
       let same = rules-one s e bytes small o (step s e) (c .keeps) (step-meets s e bytes small) in
-      subst Good (sym (c .image ∙ ap (λ (u : Outcome). u .image) same)) (good-rule _ (h .bytes) (image-good _ h))
+      subst Good (sym (c .image ∙ ap (λ (u : Outcome). u .image) same)) (good-step s e bytes small g)
 
   -- what holds of the image as it came, and of what an accepted event leaves, holds of what the call left
   left : (P : List ℕ → Type 0) → P s → (Accepted s e o → P (o .image)) → P x
-  left P stays moves = subst P (sym (c .image)) (either s e bytes small o (c .keeps) P stays moves)
+  left P stays moves = subst P (sym (c .image)) (stays-or-moves s e bytes small o (c .keeps) P stays moves)
 
   -- where no mailbox byte changes, none changes outside mailbox n
   none : (n : ℕ) (y : List ℕ) → BoxesStayBut 32 s y → BoxesStayBut n s y

@@ -1,7 +1,7 @@
 -- An accepted step meets the rulebook.
 use Prim.Native.Nat.{ℕ, _+_, _*_, _%_, _^_}
 use mathlib.Core.Path.{_≡_, refl, sym, _∙_, ap, subst}
-use mathlib.Core.Bool.{true, cond}
+use mathlib.Core.Bool.{true}
 use mathlib.Core.List.{List, [], _∷_}
 use mathlib.Core.Logic.{_≢_}
 use native.Mathlib.Omega.{arith}
@@ -12,7 +12,6 @@ use Rattle.words.specs.Word.{wordAt, wordsOf}
 use Rattle.words.proofs.Bytes.{Bytes}
 use Rattle.registers.specs.declared.Block.{Block}
 use Rattle.registers.specs.Block.{blockOf}
-use Rattle.registers.specs.Status.{passive}
 use Rattle.registers.specs.Modes.{risen, recessive}
 use Rattle.registers.proofs.Laws.{byte-stays, block-back}
 use Rattle.mailboxes.specs.Mailbox.{mailbox}
@@ -28,15 +27,15 @@ use Rattle.refusals.specs.Refusal.{refusal, remaining}
 use Rattle.answers.specs.Answer.{Outcome as Result}
 use Rattle.model.specs.Step.{own, goes, delivered, acted, blockAfter, postmarked, rewritten, mailboxesAfter, named, accepted}
 use Rattle.model.proofs.Kept.{Taken as TakenEvent, taken, boxes-after, block-after, accepted-good}
-use Rattle.rules.specs.Words.{Words, words, Only, BoxesStayBut, atMost, OPTIONS}
+use Rattle.rules.specs.Words.{Words, words, Only, BoxesStayBut, atMost, TEC, OPTIONS}
 use Rattle.rules.specs.Events.{operation, target, word, value, Answers}
 use Rattle.rules.specs.Writing.{Write, BoxWrite}
 use Rattle.rules.specs.Receiving.{Frame}
-use Rattle.rules.specs.Sending.{Start, Sent, Unsent, ReceiveError, Recessive, Tick, Mode, Ending}
+use Rattle.rules.specs.Sending.{Start, Sent, unacknowledgedTec, ReceiveError, Recessive, Tick, Mode, Ending}
 use Rattle.rules.specs.Fresh.{FreshWords}
-use Rattle.rules.specs.Step.{stamped, Quiet, Does, Accepted}
+use Rattle.rules.specs.Step.{stamped, Quiet, Fails, Does, Accepted}
 use Rattle.rules.proofs.Blocks.{ofBlock, of-block}
-use Rattle.rules.proofs.Sending.{tick, recessive-bits, receive-error, mode-asked, options-taken, reset, sending, losing, erring, missing, ending}
+use Rattle.rules.proofs.Sending.{tick, recessive-bits, receive-error, mode-asked, options-taken, reset, sending, losing, erring, unacknowledged, ending}
 use Rattle.rules.proofs.Starting.{start}
 use Rattle.rules.proofs.Writing.{write-step}
 use Rattle.rules.proofs.Boxes.{box-write}
@@ -100,17 +99,17 @@ module _ (s : List ℕ) where
   unfolding own goes delivered accepted named
   does-sent k = (sending b (full 0 k) (k .good .block .core .ranges .tec), stamps (k .good), (refl, refl))
 
-  does-lost : TakenEvent s (Concluded 1) → Unsent (b .tec) (ofBlock b) (mid (Concluded 1)) × BoxesStayBut 32 s (accepted s (Concluded 1) .image) × Answers (b .slot) 0 (accepted s (Concluded 1))
+  does-lost : TakenEvent s (Concluded 1) → Fails (b .tec) s (ofBlock b) (mid (Concluded 1)) (accepted s (Concluded 1))
   unfolding own goes delivered accepted named mailboxesAfter
   does-lost k = (losing b (full 1 k) (k .good .block .core .ranges .tec), stay (Concluded 1) refl, (refl, refl))
 
-  does-fail : TakenEvent s (Concluded 2) → Unsent (atMost 256 (b .tec + 8)) (ofBlock b) (mid (Concluded 2)) × BoxesStayBut 32 s (accepted s (Concluded 2) .image) × Answers (b .slot) 0 (accepted s (Concluded 2))
+  does-fail : TakenEvent s (Concluded 2) → Fails (atMost 256 (b .tec + 8)) s (ofBlock b) (mid (Concluded 2)) (accepted s (Concluded 2))
   unfolding own goes delivered accepted named mailboxesAfter
   does-fail k = (erring b (full 2 k) (k .good .block .core .ranges .tec), stay (Concluded 2) refl, (refl, refl))
 
-  does-missing : TakenEvent s (Concluded 3) → Unsent (cond (passive b) (b .tec) (b .tec + 8)) (ofBlock b) (mid (Concluded 3)) × BoxesStayBut 32 s (accepted s (Concluded 3) .image) × Answers (b .slot) 0 (accepted s (Concluded 3))
+  does-unacknowledged : TakenEvent s (Concluded 3) → Fails (unacknowledgedTec (ofBlock b)) s (ofBlock b) (mid (Concluded 3)) (accepted s (Concluded 3))
   unfolding own goes delivered accepted named mailboxesAfter
-  does-missing k = (missing b (full 3 k) (k .good .block .core .ranges .tec), stay (Concluded 3) refl, (refl, refl))
+  does-unacknowledged k = (unacknowledged b (full 3 k) (k .good .block .core .ranges .tec), stay (Concluded 3) refl, (refl, refl))
 
   does-error : (v : ℕ) → TakenEvent s (Worse v) → ReceiveError v (ofBlock b) (mid (Worse v)) × Quiet s (accepted s (Worse v))
   unfolding own goes delivered mailboxesAfter accepted named
@@ -148,6 +147,13 @@ module _ (s e : List ℕ) (bytes : Bytes s) (small-bytes : Bytes e) (g : goodIma
       let same : event e ≡ eventAs k e = ap (λ (n : ℕ). eventAs n e) q in
       subst P (sym same) (h (subst (TakenEvent s) same t))
 
+  -- and of an outcome, by its number
+  outcome : (k : ℕ) (P : Event → Type 0) → (TakenEvent s (Concluded k) → P (Concluded k)) → operation e ≡ 4 → target e ≡ k → P (event e)
+  outcome k P h = of 4 (λ v. target e ≡ k → P v) (of-kind s (target e) k P h)
+
+  abbrev was : Words
+  was = ofBlock (blockOf s)
+
   abbrev o : Result
   o = accepted s (event e)
 
@@ -161,17 +167,12 @@ module _ (s e : List ℕ) (bytes : Bytes s) (small-bytes : Bytes e) (g : goodIma
         frame = of 2 (λ v. Frame s e (ofBlock (blockOf s)) (mid s v) (accepted s v)) (does-frame s e small-bytes);
         start = of 3 (λ v. Start s (ofBlock (blockOf s)) (mid s v) (accepted s v .mailbox) × (accepted s v .count ≡ 0) × BoxesStayBut 32 s (accepted s v .image)) (does-start s);
         sent =
-            of 4 (λ v. target e ≡ 0 → Sent (ofBlock (blockOf s)) (mid s v) × BoxWrite (blockOf s .slot) 1 (stamped s (blockOf s .slot)) s (accepted s v .image) × Answers (blockOf s .slot) 0 (accepted s v))
-            (of-kind s (target e) 0 (λ v. Sent (ofBlock (blockOf s)) (mid s v) × BoxWrite (blockOf s .slot) 1 (stamped s (blockOf s .slot)) s (accepted s v .image) × Answers (blockOf s .slot) 0 (accepted s v)) (does-sent s));
-        lost =
-            of 4 (λ v. target e ≡ 1 → Unsent (blockOf s .tec) (ofBlock (blockOf s)) (mid s v) × BoxesStayBut 32 s (accepted s v .image) × Answers (blockOf s .slot) 0 (accepted s v))
-            (of-kind s (target e) 1 (λ v. Unsent (blockOf s .tec) (ofBlock (blockOf s)) (mid s v) × BoxesStayBut 32 s (accepted s v .image) × Answers (blockOf s .slot) 0 (accepted s v)) (does-lost s));
-        error =
-            of 4 (λ v. target e ≡ 2 → Unsent (atMost 256 (blockOf s .tec + 8)) (ofBlock (blockOf s)) (mid s v) × BoxesStayBut 32 s (accepted s v .image) × Answers (blockOf s .slot) 0 (accepted s v))
-            (of-kind s (target e) 2 (λ v. Unsent (atMost 256 (blockOf s .tec + 8)) (ofBlock (blockOf s)) (mid s v) × BoxesStayBut 32 s (accepted s v .image) × Answers (blockOf s .slot) 0 (accepted s v)) (does-fail s));
-        unacknowledged =
-            of 4 (λ v. target e ≡ 3 → Unsent (cond (passive (blockOf s)) (blockOf s .tec) (blockOf s .tec + 8)) (ofBlock (blockOf s)) (mid s v) × BoxesStayBut 32 s (accepted s v .image) × Answers (blockOf s .slot) 0 (accepted s v))
-            (of-kind s (target e) 3 (λ v. Unsent (cond (passive (blockOf s)) (blockOf s .tec) (blockOf s .tec + 8)) (ofBlock (blockOf s)) (mid s v) × BoxesStayBut 32 s (accepted s v .image) × Answers (blockOf s .slot) 0 (accepted s v)) (does-missing s));
+            outcome 0
+            (λ v. Sent was (mid s v) × BoxWrite (blockOf s .slot) 1 (stamped s (blockOf s .slot)) s (accepted s v .image) × Answers (blockOf s .slot) 0 (accepted s v))
+            (does-sent s);
+        lost = outcome 1 (λ v. Fails (was TEC) s was (mid s v) (accepted s v)) (does-lost s);
+        error = outcome 2 (λ v. Fails (atMost 256 (was TEC + 8)) s was (mid s v) (accepted s v)) (does-fail s);
+        unacknowledged = outcome 3 (λ v. Fails (unacknowledgedTec was) s was (mid s v) (accepted s v)) (does-unacknowledged s);
         receive-error = of 5 (λ v. ReceiveError (value e) (ofBlock (blockOf s)) (mid s v) × Quiet s (accepted s v)) (does-error s (value e));
         recessive = of 6 (λ v. Recessive (ofBlock (blockOf s)) (mid s v) × Quiet s (accepted s v)) (does-recessive s);
         tick = of 7 (λ v. Tick (ofBlock (blockOf s)) (mid s v) × Quiet s (accepted s v)) (does-tick s);

@@ -19,11 +19,11 @@ use Rattle.fresh.specs.Fresh.{freshBlock}
 use Rattle.registers.specs.Status.{busOff, passive, asleep}
 use Rattle.registers.specs.Modes.{ticked, overflows, recessive, worsened, asked, optioned, risen, ready, entered, settled, wakes}
 use Rattle.registers.specs.Writes.{slotMask}
-use Rattle.registers.specs.Sending.{sent, failed, aborting, concluded}
+use Rattle.registers.specs.Sending.{sent, failed, aborting, added, concluded}
 use Rattle.registers.proofs.Flags.{slot-bit, sent-trs, sent-ta, sent-trr, sent-mbtif, aborting-bit, failed-trs, failed-aa, failed-trr, failed-gif, entered-gif, risen-gif, ticked-gif}
 use Rattle.model.proofs.Meets.{calm}
 use Rattle.rules.specs.Words.{_is_, atMost, Only, MD, TRS, TRR, TA, AA, MBTIF, GIF, TSC, TEC, REC, MODE, WAITING, SLOT, RECOVERY, OPTIONS, TSO}
-use Rattle.rules.specs.Sending.{Gif, nothing, Tick, Recessive, Sent, Unsent, ReceiveError, Mode, Ending}
+use Rattle.rules.specs.Sending.{Gif, nothing, Tick, Recessive, Sent, Unsent, unacknowledgedTec, ReceiveError, Mode, Ending}
 use Rattle.rules.specs.Fresh.{FreshWords}
 use Rattle.rules.proofs.Blocks.{ofBlock, only, still}
 
@@ -203,12 +203,12 @@ module _ (b : Block) (full : b .slot ≢ 31) (low : b .tec ≤ 256) where
   pub erring : Unsent (atMost 256 (b .tec + 8)) (ofBlock b) (ofBlock (risen b (concluded b 2)))
   erring = failing 8 (atMost 256 (b .tec + 8)) refl
 
-  pub missing : Unsent (cond (passive b) (b .tec) (b .tec + 8)) (ofBlock b) (ofBlock (risen b (concluded b 3)))
-  missing = at (passive b) refl
+  pub unacknowledged : Unsent (unacknowledgedTec (ofBlock b)) (ofBlock b) (ofBlock (risen b (concluded b 3)))
+  unacknowledged = failing (added b 3) _ (at (passive b) refl)
     where
-      at : (t : Bool) → passive b ≡ t → Unsent (cond t (b .tec) (b .tec + 8)) (ofBlock b) (ofBlock (risen b (failed b (cond (not t) 8 0))))
-      at true e = failing 0 (b .tec) stays
-      at false e = failing 8 (b .tec + 8) (rw (le-ltb 256 (b .tec + 8) (omega (arith, ltb-false 127 (b .tec) (neither _ _ e .0)))))
+      at : (t : Bool) → passive b ≡ t → atMost 256 (b .tec + added b 3) ≡ unacknowledgedTec (ofBlock b)
+      at true e = rw e stays
+      at false e = rw (e, le-ltb 256 (b .tec + 8) (omega (arith, ltb-false 127 (b .tec) (neither _ _ e .0))))
 
 -- the end of a step
 pub ending : (b : Block) → Ending (ofBlock b) (ofBlock (settled b))

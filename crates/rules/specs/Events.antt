@@ -29,7 +29,7 @@ abbrev pub rtr : List ℕ → Bool
 rtr e = value e has 30
 
 -- Refusal 2: another length than 16, or a number that nothing has: an operation above 10, a register above 19, a mailbox above 31, a word
--- above 3, an outcome above 3. RML and RFP cannot be written.
+-- above 3, an outcome above 3 (document 02, b). RML and RFP cannot be written.
 abbrev pub unknown : ℕ → List ℕ → Bool
 unknown op e =
     not (length e is 16)

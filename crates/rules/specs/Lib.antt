@@ -1,4 +1,4 @@
--- The rulebook: document 01 as rules over the words, bits and bytes of an image, in its own numbers. Read it in this order: the vocabulary;
+-- The rulebook: document 01, and the outcome of document 02, b), as rules over the words, bits and bytes of an image, in its own numbers. Read it in this order: the vocabulary;
 -- the sections; the step and the fresh model; what is proved of it all.
 pub mod Words
 pub mod Image

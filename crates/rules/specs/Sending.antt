@@ -68,6 +68,10 @@ pub record Unsent (t : ℕ) (was now : Words) : Type 0 where
   pub gif : Gif (λ n. was TRR has was SLOT && n is 4) was now
   pub rest : Only (SLOT ∷ TRS ∷ TRR ∷ AA ∷ TEC ∷ GIF ∷ []) was now
 
+-- Document 02, b): TEC after a missing acknowledgement, by the words before it: it stays where the unit was passive, else it rises by 8.
+abbrev pub unacknowledgedTec : Words → ℕ
+unacknowledgedTec was = cond (passive was) (was TEC) (was TEC + 8)
+
 -- A receive error, on the bus, adds to REC, which stops at 255.
 pub record ReceiveError (more : ℕ) (was now : Words) : Type 0 where
   pub rec : now REC ≡ cond (onBus was) (atMost 255 (was REC + more)) (was REC)

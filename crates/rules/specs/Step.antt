@@ -1,17 +1,15 @@
 -- The rulebook together: what one event leaves, and what a call answers.
 use Prim.Native.Nat.{ℕ, _+_, _*_, _%_, _<_}
 use mathlib.Core.Path.{_≡_}
-use mathlib.Core.Bool.{cond}
 use mathlib.Core.List.{List, [], _∷_}
 use mathlib.Core.Logic.{_≢_}
 use lib.ListN.{length}
 use Rattle.answers.specs.Answer.{Outcome}
 use Rattle.rules.specs.Words.{Words, words, byte, box, atMost, Only, BoxesStayBut, TSC, TEC, SLOT, OPTIONS}
-use Rattle.rules.specs.Image.{passive}
 use Rattle.rules.specs.Events.{operation, target, word, value, Applies, FirstRefusal, Answers}
 use Rattle.rules.specs.Writing.{Write, BoxWrite}
 use Rattle.rules.specs.Receiving.{Frame}
-use Rattle.rules.specs.Sending.{Start, Sent, Unsent, ReceiveError, Recessive, Tick, Mode, Ending}
+use Rattle.rules.specs.Sending.{Start, Sent, Unsent, unacknowledgedTec, ReceiveError, Recessive, Tick, Mode, Ending}
 use Rattle.rules.specs.Fresh.{FreshWords}
 
 -- The events: an accepted one answers mailbox 32, count 0 where nothing else is said. Here no mailbox byte changes either.
@@ -22,19 +20,21 @@ Quiet s o = Answers 32 0 o × BoxesStayBut 32 s (o .image)
 abbrev pub stamped : List ℕ → ℕ → ℕ
 stamped s n = words s TSC * 65536 + box s n 1 % 65536
 
--- What each operation itself does: `was` are the register words before, `now` those before a waiting mode is taken. Of the outcomes that did
--- not send, lost arbitration leaves TEC, and an error adds 8, up to 256. Document 02, b): a missing acknowledgement leaves TEC where the unit
--- was passive before it, and adds 8 where it was not.
+-- Sending, every outcome but sent: no mailbox byte changes, and the answer names what was in the slot. TEC becomes t.
+abbrev pub Fails : ℕ → List ℕ → Words → Words → Outcome → Type 0
+Fails t s was now o = Unsent t was now × BoxesStayBut 32 s (o .image) × Answers (was SLOT) 0 o
+
+-- What each operation itself does: `was` are the register words before, `now` those before a waiting mode is taken. Of the outcomes, lost
+-- arbitration leaves TEC, and an error adds 8, up to 256; a missing acknowledgement is that of document 02, b).
 pub record Does (s e : List ℕ) (was now : Words) (o : Outcome) : Type 0 where
   pub register : operation e ≡ 0 → Write (target e) (value e) was now × Quiet s o
   pub mailbox : operation e ≡ 1 → BoxWrite (target e) (word e) (value e) s (o .image) × Only [] was now × Answers 32 0 o
   pub frame : operation e ≡ 2 → Frame s e was now o
   pub start : operation e ≡ 3 → Start s was now (o .mailbox) × (o .count ≡ 0) × BoxesStayBut 32 s (o .image)
   pub sent : operation e ≡ 4 → target e ≡ 0 → Sent was now × BoxWrite (was SLOT) 1 (stamped s (was SLOT)) s (o .image) × Answers (was SLOT) 0 o
-  pub lost : operation e ≡ 4 → target e ≡ 1 → Unsent (was TEC) was now × BoxesStayBut 32 s (o .image) × Answers (was SLOT) 0 o
-  pub error : operation e ≡ 4 → target e ≡ 2 → Unsent (atMost 256 (was TEC + 8)) was now × BoxesStayBut 32 s (o .image) × Answers (was SLOT) 0 o
-  pub unacknowledged : operation e ≡ 4 → target e ≡ 3
-      → Unsent (cond (passive was) (was TEC) (was TEC + 8)) was now × BoxesStayBut 32 s (o .image) × Answers (was SLOT) 0 o
+  pub lost : operation e ≡ 4 → target e ≡ 1 → Fails (was TEC) s was now o
+  pub error : operation e ≡ 4 → target e ≡ 2 → Fails (atMost 256 (was TEC + 8)) s was now o
+  pub unacknowledged : operation e ≡ 4 → target e ≡ 3 → Fails (unacknowledgedTec was) s was now o
   pub receive-error : operation e ≡ 5 → ReceiveError (value e) was now × Quiet s o
   pub recessive : operation e ≡ 6 → Recessive was now × Quiet s o
   pub tick : operation e ≡ 7 → Tick was now × Quiet s o

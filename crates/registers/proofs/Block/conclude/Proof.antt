@@ -30,7 +30,9 @@ returns : tie.Need-returns
 returns c = rw (c .before .if1 .taken) (c .send .ensures)
 
 returns-2 : tie.Need-returns-2
-returns-2 c = rw (ne-eqb (c .before .before .before .args .kind) 0 (c .before .before .if1 .left)) (c .fail .ensures ∙ ap (failed (c .before .before .before .args .self)) (c .before .added .ensures))
+returns-2 c =
+    let a = c .before .before .before .args in
+    rw (ne-eqb (a .kind) 0 (c .before .before .if1 .left)) (c .fail .ensures ∙ ap (failed (a .self)) (c .before .added .ensures))
 
 pub conclude-spec : {M : Type 1} → statement M
 conclude-spec = tie.close (tie.spec send-requires added-requires fail-requires returns returns-2)
