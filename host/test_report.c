@@ -116,16 +116,18 @@ static void check_idle(const struct run *r, int step, const char *name)
     text_free(&t);
 }
 
-static int kept; /* how often a drawn unit kept its TEC */
+static int kept, kept_by_rec; /* how often a drawn unit kept its TEC, and how often only REC had made it passive */
 
 /*
  * That TEC stays is said of a missing acknowledgement alone, and only where it does; and wherever it does, but in a unit
- * that falls asleep, where 0 may stand for 0 by chance.
+ * that falls asleep, where 0 may stand for 0 by chance. Where TEC is not the reason, REC is named.
  */
 static void check_kept_tec(const uint8_t *before, const uint8_t *event, uint64_t answer, const uint8_t *after,
                            const char *name)
 {
     uint32_t tec = frostsorrel_register_word(before, FROSTSORREL_TEC);
+    uint32_t rec = frostsorrel_register_word(before, FROSTSORREL_REC);
+    int by_rec = tec < 128 && rec > 127;
     int stays = event[0] == FROSTSORREL_OUTCOME && event[1] == FROSTSORREL_UNACKNOWLEDGED &&
                 frostsorrel_register_word(after, FROSTSORREL_TEC) == tec;
     int asleep = frostsorrel_register_word(after, FROSTSORREL_WORD_MODE) == FROSTSORREL_SLEEP;
@@ -134,10 +136,13 @@ static void check_kept_tec(const uint8_t *before, const uint8_t *event, uint64_t
 
     say_answer(&answered, before, event, answer);
     text_add(&words, ", TEC stays at %lu: the unit is passive", wide(tec));
+    if (by_rec)
+        text_add(&words, ", REC %lu", wide(rec));
     said = answered.length ? strstr(answered.at, ", TEC ") : 0;
     check(!said || (stays && strcmp(said, words.at) == 0), "%s: TEC was %lu: %s", name, wide(tec), said);
     check(said || !stays || asleep, "%s: nothing says that TEC stays at %lu", name, wide(tec));
     kept += said != 0;
+    kept_by_rec += said && by_rec;
     text_free(&answered);
     text_free(&words);
 }
@@ -431,6 +436,7 @@ int main(int argc, char **argv)
         check_any_bytes();
     for (int i = 0; i < 20000; i++)
         check_any_image();
-    check(kept > 0, "no drawn unit kept its TEC");
+    check(kept > kept_by_rec && kept_by_rec > 0, "%d drawn units kept their TEC, %d of them by REC alone", kept,
+          kept_by_rec);
     return report("host report");
 }

@@ -5,7 +5,7 @@
 #include "lines.h"
 #include "trace.h"
 
-/* How the language calls the outcomes, by their numbers. */
+/* The outcomes there are, and how the language calls them, by their numbers. */
 enum { OUTCOMES = FROSTSORREL_UNACKNOWLEDGED + 1 };
 extern const char *const outcome_words[OUTCOMES];
 

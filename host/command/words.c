@@ -2,6 +2,8 @@
 
 #include <string.h>
 
+#include "scenario.h"
+
 /* ---- parts of words */
 
 /* The next row of bits without a gap, from this bit on. Answers its first bit and the bit behind it; 32 if none. */
@@ -180,7 +182,7 @@ void say_event(struct text *t, const uint8_t *event)
         say_frame(t, event);
         break;
     case FROSTSORREL_OUTCOME:
-        if (event[1] <= FROSTSORREL_UNACKNOWLEDGED)
+        if (event[1] < OUTCOMES)
             text_add(t, "outcome %s", frostsorrel_outcome_name(event[1]));
         else
             text_add(t, "outcome %d", event[1]);
@@ -228,7 +230,8 @@ static void say_idle(struct text *t, const char *state, uint8_t operation)
 
 /*
  * Where nobody acknowledged, a unit that was passive keeps its TEC (document 02, b). A change that does not come shows
- * nowhere else, so it is said; not where sleep waits, which makes TEC 0 in the same step.
+ * nowhere else, so it is said; not where sleep waits, which makes TEC 0 in the same step. A TEC that is not above 127
+ * leaves open why the unit is passive, so REC is named with it.
  */
 static void say_kept_tec(struct text *t, const uint8_t *before, const uint8_t *event)
 {
@@ -236,8 +239,11 @@ static void say_kept_tec(struct text *t, const uint8_t *before, const uint8_t *e
     int is_unacknowledged = event[0] == FROSTSORREL_OUTCOME && event[1] == FROSTSORREL_UNACKNOWLEDGED;
     int sleep_waits = frostsorrel_register_word(before, FROSTSORREL_WORD_WAITING) == FROSTSORREL_SLEEP;
 
-    if (is_unacknowledged && !sleep_waits && strcmp(error_state(before), "passive") == 0)
-        text_add(t, ", TEC stays at %lu: the unit is passive", wide(tec));
+    if (!is_unacknowledged || sleep_waits || strcmp(error_state(before), "passive") != 0)
+        return;
+    text_add(t, ", TEC stays at %lu: the unit is passive", wide(tec));
+    if (tec <= FROSTSORREL_PASSIVE_ABOVE)
+        text_add(t, ", REC %lu", wide(frostsorrel_register_word(before, FROSTSORREL_REC)));
 }
 
 /* An answer is told as it is. Where it names no mailbox the state may say why. */

@@ -10,7 +10,7 @@ void say_event(struct text *t, const uint8_t *event);
 
 /*
  * What an accepted step answers, "mailbox 5, 1 compared", and what does not happen in it, "mailbox 0, TEC stays at 128:
- * the unit is passive"; nothing where there is nothing to say.
+ * the unit is passive", "TEC stays at 8: the unit is passive, REC 128"; nothing where there is nothing to say.
  */
 void say_answer(struct text *t, const uint8_t *before, const uint8_t *event, uint64_t answer);
 
