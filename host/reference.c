@@ -109,14 +109,13 @@ static inline bool on_bus(const uint8_t *image)
     return get(image, MODE) == NORMAL && get(image, TEC) != BUS_OFF;
 }
 
-enum { PASSIVE = 0x02 };
+enum { WARNING = 0x01, PASSIVE = 0x02, OFF_BUS = 0x04 }; /* in GSR, and in GIF when they become true */
 
-/* Bus off, passive, warning: bits 2, 1, 0 of GSR, and of GIF when they become true. */
 static inline uint32_t conditions(const uint8_t *image)
 {
     uint32_t tec = get(image, TEC), rec = get(image, REC), worse = tec > rec ? tec : rec;
 
-    return (uint32_t)(tec == BUS_OFF) << 2 | (uint32_t)(worse > 127) << 1 | (worse > 96);
+    return (uint32_t)(tec == BUS_OFF) * OFF_BUS | (worse > 127) * PASSIVE | (worse > 96) * WARNING;
 }
 
 /* ---- good image */

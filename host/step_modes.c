@@ -186,7 +186,7 @@ static void modes_of_a_lone_tool(void)
         uint32_t taken = waiting[i % COUNT(waiting)];
         size_t k = i / COUNT(waiting);
 
-        begin("a mode waits for nobody's acknowledgement", SENDING);
+        begin("a mode waits, and nobody acknowledges", SENDING);
         given({TEC, counts[k].before}, {REC, 12});
         accept(mode(taken));
         now({WAITING, taken});
