@@ -78,7 +78,8 @@ enum {
  * Unacknowledged is what a tool alone on its bus meets: nobody acknowledges the frame, and nobody puts a
  * dominant bit over the passive error flag. It does all that an error does, but for TEC. Where TEC or REC
  * was above 127 before it, so that the model was passive already, TEC stays; else it rises by 8, as after
- * an error. Alone it leads to passive, and never to bus off.
+ * an error. Alone it leads to passive, and never to bus off. A sleep that waits is entered at the end of
+ * the step, and makes TEC 0.
  */
 enum {
     FROSTSORREL_SENT = 0,
