@@ -6,11 +6,11 @@ use mathlib.Core.List.{List}
 use mathlib.Core.Logic.{_≢_, inl, inr}
 use native.Mathlib.Decide.{ℕ-discrete}
 use native.Mathlib.Omega.{arith}
-use borrow.Author.Tests.{ltb-false, lt-ltb, ne-eqb}
+use borrow.Author.Tests.{ne-eqb, ltb-false, lt-ltb}
 use Rattle.bits.proofs.Tests.{neither}
 use Rattle.words.specs.Bytes.{Bytes}
 use Rattle.model.specs.Step.{step}
-use Rattle.rules.specs.Words.{Words, words, _is_, TEC, WAITING}
+use Rattle.rules.specs.Words.{Words, words, TEC, WAITING}
 use Rattle.rules.specs.Image.{passive}
 use Rattle.rules.specs.Events.{operation, Applies, slot-empty}
 use Rattle.rules.specs.Sending.{taken, Unsent, unacknowledgedTec, Ending}
@@ -67,9 +67,14 @@ outcome-below s e bytes small op free =
     let g = good-rule s bytes (accepted-good s e bytes small (no-number s e bytes small free)) in
     g .registers .filled (λ z. free 7 (slot-empty refl (rw (op, z)))) .1
 
+by-cases : {A C : Type 0} → Dec A → (A → C) → ((A → ⊥) → C) → C
+by-cases (yes a) f g = f a
+by-cases (no n) f g = g n
+
 pub counts : Counts
 unfolding Counts
-counts s e bytes small op t free = at (ℕ-discrete (words s WAITING) 2)
+counts s e bytes small op t free =
+    by-cases (ℕ-discrete (words s WAITING) 2) (λ z. rw z (clears z)) (λ w. rw (ne-eqb (words s WAITING) 2 w) (counted w))
   where
     p : Accepted s e (step s e)
     p = step-meets s e bytes small .accepts free
@@ -77,12 +82,11 @@ counts s e bytes small op t free = at (ℕ-discrete (words s WAITING) 2)
     u : Unsent (unacknowledgedTec (words s)) (words s) (p .middle)
     u = p .does .unacknowledged op t .0
 
-    at : Dec (words s WAITING ≡ 2) → words (step s e .image) TEC ≡ cond (words s WAITING is 2) 0 (unacknowledgedTec (words s))
-    at (no w) =
-        end-stays (p .middle) (words (step s e .image)) (p .ending) (λ z. w (sym (u .rest WAITING refl) ∙ z))
-        ∙ u .tec
-        ∙ rw (ne-eqb (words s WAITING) 2 w)
-    at (yes z) =
+    clears : words s WAITING ≡ 2 → words (step s e .image) TEC ≡ 0
+    clears z =
         let waits = u .rest WAITING refl ∙ z in
         let low : p .middle TEC < 256 = rw (u .tec) (room s e bytes small (passive (words s)) refl (outcome-below s e bytes small op free)) in
-        p .ending .asleep (rw (waits, u .slot, lt-ltb (p .middle TEC) 256 low)) waits .0 ∙ rw z
+        p .ending .asleep (rw (waits, u .slot, lt-ltb (p .middle TEC) 256 low)) waits .0
+
+    counted : words s WAITING ≢ 2 → words (step s e .image) TEC ≡ unacknowledgedTec (words s)
+    counted w = end-stays (p .middle) (words (step s e .image)) (p .ending) (λ z. w (sym (u .rest WAITING refl) ∙ z)) ∙ u .tec
