@@ -11,7 +11,7 @@ use Rattle.bits.specs.Bit.{bit}
 use Rattle.bits.proofs.Sets.{and-l, and-r}
 use Rattle.bits.proofs.Tests.{all}
 use Rattle.words.proofs.Bytes.{Bytes, word-lt}
-use Rattle.mailboxes.specs.Mailbox.{longest, wordLayout}
+use Rattle.mailboxes.specs.Mailbox.{highestDlc, wordLayout}
 use Rattle.mailboxes.specs.Filing.{dataBytes}
 use Rattle.events.specs.declared.Frame.{Frame}
 use Rattle.events.specs.declared.Event.{Event}
@@ -40,7 +40,7 @@ pub record MailboxAllowed (n k v : ℕ) : Type 0 where
   pub laid : wordLayout k v ≡ true
 
 pub record FrameAllowed (f : Frame) : Type 0 where
-  pub short : f .dlc ≤ longest
+  pub dlc : f .dlc ≤ highestDlc
   pub identifier : f .id .0 < 2 ^ 29
   pub standard : f .ide ≡ false → f .id .0 % 2 ^ 18 ≡ 0
   pub small : f .bytes < 2 ^ 64
@@ -98,9 +98,9 @@ module _ (e : List ℕ) (b : Bytes e) where
   unfolding frameOf frameAllowed
   heard k q a =
       let v = value e in
-      let f = all (leb (target e) longest ∷ not (bit v 29) ∷ (bit v 31 || eqb (v % 2 ^ 18) 0) ∷ []) a in
+      let f = all (leb (target e) highestDlc ∷ not (bit v 29) ∷ (bit v 31 || eqb (v % 2 ^ 18) 0) ∷ []) a in
       record {
-        short = leb-true (target e) longest (f .0);
+        dlc = leb-true (target e) highestDlc (f .0);
         identifier = omega arith;
         standard = λ p. let z = eqb-true (v % 2 ^ 18) 0 (rw p at (f .1 .1 .0)) in omega arith;
         small = payload-lt e b;

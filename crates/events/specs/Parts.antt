@@ -7,7 +7,7 @@ use lib.ListN.{getD}
 use Rattle.bits.specs.Bit.{bit}
 use Rattle.bits.specs.Tests.{every}
 use Rattle.words.specs.Word.{wordAt}
-use Rattle.mailboxes.specs.Mailbox.{longest}
+use Rattle.mailboxes.specs.Mailbox.{highestDlc}
 use Rattle.mailboxes.specs.Filing.{dataBytes}
 use Rattle.events.specs.declared.Frame.{Frame}
 
@@ -52,10 +52,10 @@ frameOf e =
 abbrev pub frameBytes : List ℕ → ℕ
 frameBytes e = dataBytes (bit (value e) 30) (target e)
 
--- The events, not allowed: a DLC above 8, bit 29 of the value, a standard identifier with a bit below 18.
+-- The events, not allowed: a DLC above the highest, bit 29 of the value, a standard identifier with a bit below 18.
 unfoldable pub frameAllowed : List ℕ → Bool
 frameAllowed e =
-    every (leb (target e) longest ∷ not (bit (value e) 29) ∷ (bit (value e) 31 || eqb (value e % 2 ^ 18) 0) ∷ [])
+    every (leb (target e) highestDlc ∷ not (bit (value e) 29) ∷ (bit (value e) 31 || eqb (value e % 2 ^ 18) 0) ∷ [])
 
 -- An event whose word and data bytes are zero, and its value one byte: single steps and runs are written out with it.
 abbrev pub plainEvent : ℕ → ℕ → ℕ → List ℕ

@@ -30,7 +30,9 @@ fn is_frame_allowed(e: &[u8]) -> bool
     ensures { λ r. ⌜ r ≡ frameAllowed (now (e .entry)) ⌝ }
 {
     let v = value(e);
-    (target(e) <= 8) & !bits::test(v, 29) & (bits::test(v, 31) | (v % 262144 == 0))
+    (target(e) <= mailboxes::HIGHEST_DLC)
+        & !bits::test(v, 29)
+        & (bits::test(v, 31) | (v % 262144 == 0))
 }
 
 // Operation 2.

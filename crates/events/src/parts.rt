@@ -2,6 +2,7 @@
 ghost use mathlib.Core.Path.{_≡_};
 ghost use Prim.Native.Nat.{_≤_};
 ghost use lib.ListN.{length};
+ghost use Rattle.mailboxes.specs.Filing.{mostDataBytes};
 ghost use Rattle.events.specs.Parts.{eventBytes, target as targetOf, value as valueOf, payload as payloadOf, quiet as quietOf};
 
 pub fn target(e: &[u8]) -> u32
@@ -29,7 +30,7 @@ pub fn payload(e: &[u8]) -> u64
 // Is zero what an operation does not use? t, w and v say whether it has a target, a word, a value; n how many data bytes.
 // Two shifts, since eight bytes are all 64 bits.
 pub fn quiet(e: &[u8], t: bool, w: bool, v: bool, n: u32) -> bool
-    requires { ⌜ (length (now e) ≡ eventBytes) × (n ≤ 8) ⌝ }
+    requires { ⌜ (length (now e) ≡ eventBytes) × (n ≤ mostDataBytes) ⌝ }
     ensures { λ r. ⌜ r ≡ quietOf (now (e .entry)) t w v n ⌝ }
 {
     (t | (words::byte_at(e, 1) == 0))

@@ -1,20 +1,21 @@
 -- The sums by which many layouts are judged at once.
 use Prim.Native.Nat.{ℕ, _+_, _-_, _*_, _/_, _%_, _^_, _<_, _≤_}
-use mathlib.Core.Path.{_≡_, refl, sym, _∙_, ap}
+use mathlib.Core.Path.{_≡_, refl, sym, _∙_, ap, ap₂}
 use mathlib.Core.Bool.{Bool, true, false, _&&_, _||_, false≢true}
 use native.Mathlib.Nat.{lt-of-le-of-lt}
 use native.Mathlib.Omega.{arith}
-use lib.Dec.{eqb, ltb, leb}
-use lib.Bits.{bitOr, or-lt}
-use borrow.Author.Tests.{eqb-true, eqb-false, ltb-true, ltb-false, leb-true, leb-false, lt-ltb, le-ltb}
+use lib.Dec.{eqb, ltb}
+use lib.Bits.{bitOr, or-lt, or-shr, or-mod}
+use borrow.Author.Tests.{eqb-true, eqb-false, eq-eqb, ltb-true, ltb-false, lt-ltb, le-ltb}
 use Rattle.bits.specs.Bit.{digit, bit}
 use Rattle.bits.specs.Below.{allBelow}
 use Rattle.bits.proofs.Below.{each-below}
 use Rattle.bits.proofs.Tests.{same-test}
 use Rattle.bits.proofs.Sets.{both, and-l, and-r, within-le, or-within-l, or-within-r}
+use Rattle.mailboxes.specs.Mailbox.{wordLayout}
 use Rattle.good.specs.Sums.{Stretch}
 
--- ---- one word
+-- ---- one word 0
 
 pub identifier-test : (w : ℕ) → w < 2 ^ 32 → ltb (w % 262144 + (1 - w / 2147483648) * 2147483648 + 2147483647) 4294967296 ≡ (bit w 31 || eqb (w % 262144) 0)
 unfolding digit
@@ -35,26 +36,7 @@ identifier-test w h = at (bit w 31) refl (eqb (w % 262144) 0) refl
         let l : 4294967296 ≤ w % 262144 + (1 - w / 2147483648) * 2147483648 + 2147483647 = omega arith in
         le-ltb _ _ l
 
-pub control-test : (w : ℕ) → ltb (w % 16 + w / 32 % 2048 * 32 + 65527) 65536 ≡ (eqb (w / 32 % 2048) 0 && leb (w % 16) 8)
-control-test w = at (eqb (w / 32 % 2048) 0) refl (leb (w % 16) 8) refl
-  where
-    at : (t : Bool) → eqb (w / 32 % 2048) 0 ≡ t → (u : Bool) → leb (w % 16) 8 ≡ u → ltb (w % 16 + w / 32 % 2048 * 32 + 65527) 65536 ≡ (t && u)
-    at false p u q =
-        let d : w / 32 % 2048 ≡ 0 → ⊥ = eqb-false _ _ p in
-        let l : 65536 ≤ w % 16 + w / 32 % 2048 * 32 + 65527 = omega arith in
-        le-ltb _ _ l
-    at true p true q =
-        let d : w / 32 % 2048 ≡ 0 = eqb-true _ _ p in
-        let e : w % 16 ≤ 8 = leb-true _ _ q in
-        let l : w % 16 + w / 32 % 2048 * 32 + 65527 < 65536 = omega arith in
-        lt-ltb _ _ l
-    at true p false q =
-        let d : w / 32 % 2048 ≡ 0 = eqb-true _ _ p in
-        let e : 8 < w % 16 = leb-false _ _ q in
-        let l : 65536 ≤ w % 16 + w / 32 % 2048 * 32 + 65527 = omega arith in
-        le-ltb _ _ l
-
--- ---- two sums
+-- ---- two of each
 
 -- `|` stays below a power of two where both numbers do
 pub or-ltb : (k a b : ℕ) → ltb (bitOr a b) (2 ^ k) ≡ (ltb a (2 ^ k) && ltb b (2 ^ k))
@@ -64,6 +46,23 @@ or-ltb k a b =
     (lt-ltb _ _ (lt-of-le-of-lt (within-le (or-within-l a b)) (ltb-true _ _ h)))
     (lt-ltb _ _ (lt-of-le-of-lt (within-le (or-within-r a b)) (ltb-true _ _ h))))
     (λ h. lt-ltb _ _ (or-lt k a b (ltb-true _ _ (and-l (ltb a (2 ^ k)) (ltb b (2 ^ k)) h)) (ltb-true _ _ (and-r (ltb a (2 ^ k)) (ltb b (2 ^ k)) h))))
+
+-- `|` of two words 1 has a forbidden bit exactly where one of them has it
+pub or-control : (a b : ℕ) → wordLayout 1 (bitOr a b) ≡ (wordLayout 1 a && wordLayout 1 b)
+or-control a b =
+    let x = a / 2 ^ 5 % 2 ^ 11 in
+    let y = b / 2 ^ 5 % 2 ^ 11 in
+    let fields : bitOr a b / 2 ^ 5 % 2 ^ 11 ≡ bitOr x y = ap (λ (w : ℕ). w % 2 ^ 11) (or-shr a b 5) ∙ or-mod (a / 2 ^ 5) (b / 2 ^ 5) 11 in
+    same-test (wordLayout 1 (bitOr a b)) (wordLayout 1 a && wordLayout 1 b)
+    (λ h.
+    let z : bitOr x y ≡ 0 = sym fields ∙ eqb-true _ _ h in
+    let p : x ≡ 0 = omega (arith, within-le (or-within-l x y)) in
+    let q : y ≡ 0 = omega (arith, within-le (or-within-r x y)) in
+    both _ _ (eq-eqb _ _ p) (eq-eqb _ _ q))
+    (λ h.
+    let p : x ≡ 0 = eqb-true _ _ (and-l (wordLayout 1 a) (wordLayout 1 b) h) in
+    let q : y ≡ 0 = eqb-true _ _ (and-r (wordLayout 1 a) (wordLayout 1 b) h) in
+    eq-eqb _ _ (fields ∙ ap₂ bitOr p q))
 
 pub interchange : (a b c d : Bool) → ((a && b) && (c && d)) ≡ ((a && c) && (b && d))
 interchange true true c d = refl

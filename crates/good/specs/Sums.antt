@@ -3,11 +3,12 @@ use Prim.Native.Nat.{ℕ, _<_, _≤_}
 use mathlib.Core.Path.{_≡_}
 use mathlib.Core.Bool.{Bool, true, _&&_}
 use lib.Dec.{ltb}
+use Rattle.mailboxes.specs.Mailbox.{wordLayout}
 use Rattle.good.specs.declared.Sums.{Sums}
 
--- The image, the layout: neither sum reaches its power of two, so the words keep to it.
+-- The image, the layout: the sum of words 0 does not reach its power of two, and the words 1 together have no forbidden bit.
 abbrev pub clean : Sums → Bool
-clean x = ltb (x .identifiers) 4294967296 && ltb (x .controls) 65536
+clean x = ltb (x .identifiers) 4294967296 && wordLayout 1 (x .controls)
 
 -- t says whether p holds of every number from a on and below e.
 abbrev pub Stretch : (ℕ → Bool) → ℕ → ℕ → Bool → Type 0

@@ -75,8 +75,9 @@ fn good_block(b: Block) -> bool
     good_flags(b) & good_numbers(b) & good_slot(b)
 }
 
-// Two sums that show whether words 0 and words 1 keep to the layout, for many mailboxes at once: a sum that does not reach
-// the next power of two stands for a good word, and `|` of such sums does not reach it either.
+// What shows whether words 0 and words 1 keep to the layout, for many mailboxes at once. Of a word 0, a sum that does not reach the
+// next power of two where the word is good, and `|` of such sums does not reach it either; of words 1, the words: `|` of them
+// has a forbidden bit where one of them has it.
 pub struct Sums {
     pub identifiers: u64,
     pub controls: u32,
@@ -89,20 +90,13 @@ fn identifier_sum(w: u32) -> u64
     (w % 262144 + (1 - w / 2147483648) * 2147483648) as u64 + 2147483647
 }
 
-// Reaches 2^16 where bits 15 to 5 are not zero or the DLC is above 8.
-fn control_sum(w: u32) -> u32
-    ensures { λ r. ⌜ ltb r 65536 ≡ wordLayout 1 w ⌝ }
-{
-    w % 16 + w / 32 % 2048 * 32 + 65527
-}
-
 fn sums_of(s: &[u8], n: usize) -> Sums
     requires { ⌜ (length (now s) ≡ imageBytes) × (n < 32) ⌝ }
     ensures { λ r. ⌜ clean r ≡ layout (now (s .entry)) n ⌝ }
 {
     Sums {
         identifiers: identifier_sum(mailboxes::word(s, n, 0)),
-        controls: control_sum(mailboxes::word(s, n, 1)),
+        controls: mailboxes::word(s, n, 1),
     }
 }
 
@@ -118,7 +112,7 @@ fn joined(x: Sums, y: Sums) -> Sums
 fn is_clean(x: Sums) -> bool
     ensures { λ r. ⌜ r ≡ clean x ⌝ }
 {
-    (x.identifiers < 4294967296) & (x.controls < 65536)
+    (x.identifiers < 4294967296) & mailboxes::control_layout(x.controls)
 }
 
 fn two(s: &[u8], n: usize) -> Sums

@@ -1,50 +1,33 @@
 -- Receiving and sending: what stands in the 16 bytes of a mailbox once a frame is stored there, or stamped as sent.
 use Prim.Native.Nat.{ℕ, zero, suc, _+_, _*_, _/_, _%_, _^_, _<_, _≤_}
 use mathlib.Core.Path.{_≡_, refl, sym, _∙_, ap}
-use mathlib.Core.Bool.{Bool, true, false}
+use mathlib.Core.Bool.{Bool, true, false, cond}
 use mathlib.Core.List.{List}
 use mathlib.Core.Logic.{_⊎_, inl, inr}
-use native.Mathlib.Decide.{decLt}
 use native.Mathlib.Omega.{arith}
-use lib.Dec.{eqb, leb, lit≤}
+use lib.Dec.{eqb, ltb, lit≤}
 use lib.ListN.{getD, length}
-use borrow.Author.Tests.{eq-eqb, ne-eqb, le-leb, lt-ltb, le-ltb, eqb-true, leb-true}
+use borrow.Author.Tests.{eq-eqb, ne-eqb, ltb-false, eqb-true}
 use Rattle.bits.specs.Bit.{digit, bit}
 use Rattle.bits.proofs.Sets.{both, and-l, and-r, or-l, or-r}
 use Rattle.words.specs.Word.{wordAt, putWord}
 use Rattle.words.proofs.Bytes.{Bytes, bytes-put}
 use Rattle.words.proofs.Laws.{length-put, byte-other, word-same, word-other}
 use Rattle.mailboxes.specs.declared.Identifier.{Identifier}
-use Rattle.mailboxes.specs.Mailbox.{mailbox, ide as ideOf, maskable, rfh, identifier, stamp, rtr as rtrOf, dlc as dlcOf, longest, wordLayout, layout}
-use Rattle.mailboxes.specs.Filing.{dataBytes, filedIdentifier, filedControl, dataOf, spliced, filed, stampedControl, stamped}
+use Rattle.mailboxes.specs.Mailbox.{mailbox, ide as ideOf, maskable, rfh, identifier, stamp, rtr as rtrOf, dlc as dlcOf, highestDlc, wordLayout, layout}
+use Rattle.mailboxes.specs.Filing.{mostDataBytes, dataBytes, filedIdentifier, filedControl, dataOf, spliced, filed, stampedControl, stamped}
 use Rattle.mailboxes.proofs.Laws.{word-of}
 use Rattle.mailboxes.proofs.Spliced.{byteOf, from, byte-low, spliced-new, spliced-old, data-byte, put-data-byte, byte-put, word-byte}
 
--- ---- how many data bytes: none with a remote frame, DLC with a data frame, never more than eight
+-- ---- how many data bytes
 
-pub data-bytes-remote : (dlc : ℕ) → dataBytes true dlc ≡ 0
-data-bytes-remote dlc = refl
-
-short : (dlc : ℕ) → dlc < longest → dataBytes false dlc ≡ dlc
-short dlc h = rw (lt-ltb dlc longest h)
-
-long : (dlc : ℕ) → longest ≤ dlc → dataBytes false dlc ≡ longest
-long dlc h = rw (le-ltb dlc longest h)
-
-pub data-bytes-data : (dlc : ℕ) → dlc ≤ longest → dataBytes false dlc ≡ dlc
-data-bytes-data dlc h = at (decLt dlc longest)
-  where
-    at : Dec (dlc < longest) → dataBytes false dlc ≡ dlc
-    at (yes l) = short dlc l
-    at (no l) = let e : longest ≡ dlc = omega arith in long dlc (omega arith) ∙ e
-
-pub data-bytes-le : (rtr : Bool) (dlc : ℕ) → dataBytes rtr dlc ≤ longest
+pub data-bytes-le : (rtr : Bool) (dlc : ℕ) → dataBytes rtr dlc ≤ mostDataBytes
 data-bytes-le true dlc = omega arith
-data-bytes-le false dlc = at (decLt dlc longest)
+data-bytes-le false dlc = at (ltb mostDataBytes dlc) refl
   where
-    at : Dec (dlc < longest) → dataBytes false dlc ≤ longest
-    at (yes l) = omega (arith, short dlc l)
-    at (no l) = omega (arith, long dlc (omega arith))
+    at : (t : Bool) → ltb mostDataBytes dlc ≡ t → cond t mostDataBytes dlc ≤ mostDataBytes
+    at true h = omega arith
+    at false h = ltb-false mostDataBytes dlc h
 
 -- ---- word 0 of a stored frame, as a number
 
@@ -81,7 +64,7 @@ module _ (old : ℕ) (i : Identifier) (fits : i .0 < 2 ^ 29) where
 
 -- ---- word 1 of a stored frame, as a number
 
-module _ (tsc dlc : ℕ) (stampFits : tsc < 65536) (dlcFits : dlc < 16) where
+module _ (tsc dlc : ℕ) (stampFits : tsc < 65536) (dlcFits : dlc ≤ highestDlc) where
   control-lt : (rtr : Bool) → filedControl tsc rtr dlc < 2 ^ 32
   control-lt true = omega arith
   control-lt false = omega arith
@@ -144,7 +127,7 @@ module _ (m : List ℕ) (ide rtr : Bool) (i : Identifier) (dlc new tsc : ℕ) (s
   standard-low h low standard = ap (λ (w : ℕ). w % 2 ^ 18) (filed-word-0 h) ∙ identifier-low (wordAt m 0) i h ide ∙ low standard
 
   -- word 1
-  pub filed-word-1 : dlc < 16 → tsc < 65536 → wordAt (filed m ide rtr i dlc new tsc) 4 ≡ filedControl tsc rtr dlc
+  pub filed-word-1 : dlc ≤ highestDlc → tsc < 65536 → wordAt (filed m ide rtr i dlc new tsc) 4 ≡ filedControl tsc rtr dlc
   unfolding filed
   filed-word-1 h l =
       let v = filedIdentifier (wordAt m 0) ide i in
@@ -153,13 +136,13 @@ module _ (m : List ℕ) (ide rtr : Bool) (i : Identifier) (dlc new tsc : ℕ) (s
       ∙ word-other _ 8 _ 4 (inl (lit≤ tt))
       ∙ word-same (putWord m 0 v) 4 (filedControl tsc rtr dlc) (omega arith) (control-lt tsc dlc l h rtr)
 
-  pub filed-stamp : dlc < 16 → tsc < 65536 → stamp (wordAt (filed m ide rtr i dlc new tsc) 4) ≡ tsc
+  pub filed-stamp : dlc ≤ highestDlc → tsc < 65536 → stamp (wordAt (filed m ide rtr i dlc new tsc) 4) ≡ tsc
   filed-stamp h l = ap stamp (filed-word-1 h l) ∙ control-stamp tsc dlc l h rtr
 
-  pub filed-rtr : dlc < 16 → tsc < 65536 → rtrOf (wordAt (filed m ide rtr i dlc new tsc) 4) ≡ rtr
+  pub filed-rtr : dlc ≤ highestDlc → tsc < 65536 → rtrOf (wordAt (filed m ide rtr i dlc new tsc) 4) ≡ rtr
   filed-rtr h l = ap rtrOf (filed-word-1 h l) ∙ control-rtr tsc dlc l h rtr
 
-  pub filed-dlc : dlc < 16 → tsc < 65536 → dlcOf (wordAt (filed m ide rtr i dlc new tsc) 4) ≡ dlc
+  pub filed-dlc : dlc ≤ highestDlc → tsc < 65536 → dlcOf (wordAt (filed m ide rtr i dlc new tsc) 4) ≡ dlc
   filed-dlc h l = ap dlcOf (filed-word-1 h l) ∙ control-dlc tsc dlc l h rtr
 
   -- the data bytes: those that the frame brings
@@ -192,10 +175,6 @@ layout-1 : (m : List ℕ) → layout m 0 ≡ true → wordLayout 1 (wordAt m 4) 
 unfolding layout
 layout-1 m h = and-r (wordLayout 0 (wordAt m 0)) (wordLayout 1 (wordAt m 4)) h
 
--- word 1 by its two rules
-control-layout : (w : ℕ) → w / 2 ^ 5 % 2 ^ 11 ≡ 0 → dlcOf w ≤ longest → wordLayout 1 w ≡ true
-control-layout w p q = both (eqb (w / 2 ^ 5 % 2 ^ 11) 0) (leb (dlcOf w) longest) (eq-eqb _ _ p) (le-leb _ _ q)
-
 -- a mailbox of an image, by itself
 pub layout-alone : (s : List ℕ) (n : ℕ) → layout s n ≡ true → layout (mailbox s n) 0 ≡ true
 unfolding layout
@@ -221,14 +200,12 @@ identifier-layout old false i low h =
     or-r (ideOf w) (eqb (w % 2 ^ 18) 0) (eq-eqb _ _ (identifier-low old i h false ∙ low refl))
 
 pub filed-layout : (m : List ℕ) (ide rtr : Bool) (i : Identifier) (dlc new tsc : ℕ) → length m ≡ 16 → (ide ≡ false → i .0 % 2 ^ 18 ≡ 0)
-    → i .0 < 2 ^ 29 → dlc ≤ longest → tsc < 65536 → layout (filed m ide rtr i dlc new tsc) 0 ≡ true
-filed-layout m ide rtr i dlc new tsc size low h short l =
-    let d : dlc < 16 = omega arith in
-    let e = control-dlc tsc dlc l d rtr in
+    → i .0 < 2 ^ 29 → dlc ≤ highestDlc → tsc < 65536 → layout (filed m ide rtr i dlc new tsc) 0 ≡ true
+filed-layout m ide rtr i dlc new tsc size low h d l =
     layout-words (filed m ide rtr i dlc new tsc) (filedIdentifier (wordAt m 0) ide i) (filedControl tsc rtr dlc)
     (filed-word-0 m ide rtr i dlc new tsc size h) (filed-word-1 m ide rtr i dlc new tsc size d l)
     (identifier-layout (wordAt m 0) ide i low h)
-    (control-layout (filedControl tsc rtr dlc) (control-rest tsc dlc l d rtr) (omega arith))
+    (eq-eqb _ _ (control-rest tsc dlc l d rtr))
 
 -- ---- a stamped mailbox
 
@@ -254,10 +231,9 @@ module _ (m : List ℕ) (tsc : ℕ) (size : length m ≡ 16) (fits : tsc < 65536
   stamped-layout h =
       let w = wordAt m 4 in
       let v = stampedControl w tsc in
-      let old = layout-1 m h in
-      let rest : w / 2 ^ 5 % 2 ^ 11 ≡ 0 = eqb-true _ _ (and-l (eqb (w / 2 ^ 5 % 2 ^ 11) 0) (leb (dlcOf w) longest) old) in
-      let short : dlcOf w ≤ longest = leb-true _ _ (and-r (eqb (w / 2 ^ 5 % 2 ^ 11) 0) (leb (dlcOf w) longest) old) in
-      written-layout m 1 v size (lit≤ tt) (omega arith) (control-layout v (omega arith) (omega arith)) h
+      let rest : w / 2 ^ 5 % 2 ^ 11 ≡ 0 = eqb-true _ _ (layout-1 m h) in
+      let same : v / 2 ^ 5 % 2 ^ 11 ≡ 0 = omega arith in
+      written-layout m 1 v size (lit≤ tt) (omega arith) (eq-eqb _ _ same) h
 
 -- only bytes 6 and 7 change
 module _ (m : List ℕ) (tsc : ℕ) (size : length m ≡ 16) (b : Bytes m) where

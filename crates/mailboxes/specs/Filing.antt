@@ -6,18 +6,21 @@ use lib.Dec.{ltb}
 use Rattle.bits.specs.Bit.{flag}
 use Rattle.words.specs.Word.{wordAt, putWord}
 use Rattle.mailboxes.specs.declared.Identifier.{Identifier}
-use Rattle.mailboxes.specs.Mailbox.{longest}
 
--- Receiving: how many data bytes a frame brings: none with a remote frame, else DLC, and never more than eight.
+-- Document 02, c): the most data bytes that a frame carries.
+abbrev pub mostDataBytes : ℕ
+mostDataBytes = 8
+
+-- Receiving: how many data bytes a frame brings: none with a remote frame, else as many as its DLC says, or eight where it says more.
 abbrev pub dataBytes : Bool → ℕ → ℕ
-dataBytes rtr dlc = cond rtr 0 (cond (ltb dlc longest) dlc longest)
+dataBytes rtr dlc = cond rtr 0 (cond (ltb mostDataBytes dlc) mostDataBytes dlc)
 
 -- Receiving, word 0: IDE and the identifier are the frame's, so that a standard one leaves bits 17 to 0 zero; GAME or LAME and
 -- RFH stay.
 abbrev pub filedIdentifier : ℕ → Bool → Identifier → ℕ
 filedIdentifier old ide i = flag ide 31 + old / 2 ^ 29 % 4 * 2 ^ 29 + i .0
 
--- Receiving, word 1: time stamp, RTR and DLC are replaced.
+-- Receiving, word 1: time stamp, RTR and DLC are replaced, the DLC by the frame's own number, above eight too.
 abbrev pub filedControl : ℕ → Bool → ℕ → ℕ
 filedControl tsc rtr dlc = tsc * 2 ^ 16 + flag rtr 4 + dlc
 

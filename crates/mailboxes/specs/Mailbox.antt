@@ -2,7 +2,7 @@
 use Prim.Native.Nat.{ℕ, zero, suc, _+_, _*_, _/_, _%_, _^_}
 use mathlib.Core.Bool.{Bool, true, _&&_, _||_}
 use mathlib.Core.List.{List, _++_}
-use lib.Dec.{eqb, leb}
+use lib.Dec.{eqb}
 use lib.ListN.{take, drop}
 use Rattle.bits.specs.Bit.{bit}
 use Rattle.words.specs.Word.{wordAt}
@@ -46,15 +46,15 @@ rtr w = bit w 4
 abbrev pub dlc : ℕ → ℕ
 dlc w = w % 2 ^ 4
 
--- The image, good image: the longest frame has eight data bytes.
-abbrev pub longest : ℕ
-longest = 8
+-- Document 02, c): the highest DLC of a frame.
+abbrev pub highestDlc : ℕ
+highestDlc = 15
 
 -- The image: what word k of a mailbox may be. A standard identifier leaves bits 17 to 0 of word 0 zero; bits 15 to 5 of
--- word 1 are zero and its DLC is at most 8; data words are free.
+-- word 1 are zero, its DLC may be any; data words are free.
 abbrev pub wordLayout : ℕ → ℕ → Bool
 wordLayout zero w = ide w || eqb (w % 2 ^ 18) 0
-wordLayout (suc zero) w = eqb (w / 2 ^ 5 % 2 ^ 11) 0 && leb (dlc w) longest
+wordLayout (suc zero) w = eqb (w / 2 ^ 5 % 2 ^ 11) 0
 wordLayout (suc (suc k)) w = true
 
 -- Mailbox n keeps to the layout.

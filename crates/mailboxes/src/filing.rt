@@ -2,15 +2,22 @@
 ghost use mathlib.Core.Path.{_≡_};
 ghost use Prim.Native.Nat.{_+_, _*_, _^_, _<_, _≤_};
 ghost use lib.ListN.{length};
-ghost use Rattle.mailboxes.specs.Mailbox.{mailbox, withMailbox};
-ghost use Rattle.mailboxes.specs.Filing.{dataBytes, filedIdentifier, filedControl, dataOf, spliced as splicedOf, withData, filed, stamped};
+ghost use Rattle.mailboxes.specs.Mailbox.{mailbox, withMailbox, highestDlc};
+ghost use Rattle.mailboxes.specs.Filing.{mostDataBytes, dataBytes, filedIdentifier, filedControl, dataOf, spliced as splicedOf, withData, filed, stamped};
 use crate::Identifier;
+
+// The most data bytes that a frame carries, whatever its DLC.
+const MOST_DATA_BYTES: u32 = 8;
 
 // How many data bytes a frame brings.
 pub fn data_bytes(rtr: bool, dlc: u32) -> u32
     ensures { λ r. ⌜ r ≡ dataBytes rtr dlc ⌝ }
 {
-    bits::choose(rtr, 0, bits::choose(dlc < 8, dlc, 8))
+    bits::choose(
+        rtr,
+        0,
+        bits::choose(MOST_DATA_BYTES < dlc, MOST_DATA_BYTES, dlc),
+    )
 }
 
 fn filed_identifier(old: u32, ide: bool, i: Identifier) -> u32
@@ -21,7 +28,7 @@ fn filed_identifier(old: u32, ide: bool, i: Identifier) -> u32
 }
 
 fn filed_control(tsc: u32, rtr: bool, dlc: u32) -> u32
-    requires { ⌜ (tsc < 65536) × (dlc < 16) ⌝ }
+    requires { ⌜ (tsc < 65536) × (dlc ≤ highestDlc) ⌝ }
     ensures { λ r. ⌜ r ≡ filedControl tsc rtr dlc ⌝ }
 {
     tsc * 65536 + bits::flag(rtr, 4) + dlc
@@ -29,10 +36,10 @@ fn filed_control(tsc: u32, rtr: bool, dlc: u32) -> u32
 
 // The first n bytes of new, and above them the bytes of old.
 fn spliced(old: u64, new: u64, n: u32) -> u64
-    requires { ⌜ n ≤ 8 ⌝ }
+    requires { ⌜ n ≤ mostDataBytes ⌝ }
     ensures { λ r. ⌜ r ≡ splicedOf old new n ⌝ }
 {
-    if n == 8 {
+    if n == MOST_DATA_BYTES {
         return new;
     }
     let unit = 1u64 << (8 * n);
@@ -56,7 +63,7 @@ fn put_data(m: &mut [u8], d: u64)
 
 // A frame into 16 lent bytes.
 fn file(m: &mut [u8], ide: bool, rtr: bool, i: Identifier, dlc: u32, bytes: u64, tsc: u32)
-    requires { ⌜ (length (now m) ≡ 16) × (i .0 < 2 ^ 29) × (dlc < 16) × (tsc < 65536) ⌝ }
+    requires { ⌜ (length (now m) ≡ 16) × (i .0 < 2 ^ 29) × (dlc ≤ highestDlc) × (tsc < 65536) ⌝ }
     ensures { λ r. ⌜ now (m .exit) ≡ filed (now (m .entry)) ide rtr i dlc bytes tsc ⌝ }
 {
     let d = spliced(data_of(m), bytes, data_bytes(rtr, dlc));
@@ -77,7 +84,7 @@ pub fn put_frame(
     bytes: u64,
     tsc: u32,
 )
-    requires { ⌜ (16 * n + 16 ≤ length (now s)) × (n < 32) × (i .0 < 2 ^ 29) × (dlc < 16) × (tsc < 65536) ⌝ }
+    requires { ⌜ (16 * n + 16 ≤ length (now s)) × (n < 32) × (i .0 < 2 ^ 29) × (dlc ≤ highestDlc) × (tsc < 65536) ⌝ }
     ensures { λ r. ⌜ now (s .exit) ≡ withMailbox (now (s .entry)) n (filed (mailbox (now (s .entry)) n) ide rtr i dlc bytes tsc) ⌝ }
 {
     let a = 16 * n;

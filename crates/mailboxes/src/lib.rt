@@ -21,6 +21,9 @@ pub struct Key(pub u32);
 
 pub const MAILBOX_BYTES: usize = 16;
 
+// The highest DLC of a frame.
+pub const HIGHEST_DLC: u32 = 15;
+
 // Word k of mailbox n.
 pub fn word(s: &[u8], n: usize, k: usize) -> u32
     requires { ⌜ (16 * n + 16 ≤ length (now s)) × (n < 32) × (k < 4) ⌝ }
@@ -37,10 +40,10 @@ fn identifier_layout(w: u32) -> bool
 }
 
 // Does word 1 keep to the layout?
-fn control_layout(w: u32) -> bool
+pub fn control_layout(w: u32) -> bool
     ensures { λ r. ⌜ r ≡ wordLayout 1 w ⌝ }
 {
-    (w / 32 % 2048 == 0) & (w % 16 <= 8)
+    w / 32 % 2048 == 0
 }
 
 // May word k of a mailbox be w?

@@ -134,7 +134,7 @@ module _ (s : List ℕ) where
       replaced n (filed m (f .ide) (f .rtr) (f .id) (f .dlc) (f .bytes) (blockOf s .tsc)) h g
       (length-filed m (f .ide) (f .rtr) (f .id) (f .dlc) (f .bytes) (blockOf s .tsc))
       (bytes-filed m (f .ide) (f .rtr) (f .id) (f .dlc) (f .bytes) (blockOf s .tsc) y)
-      (filed-layout m (f .ide) (f .rtr) (f .id) (f .dlc) (f .bytes) (blockOf s .tsc) (own-length n h g) (a .standard) (a .identifier) (a .short) tsc)
+      (filed-layout m (f .ide) (f .rtr) (f .id) (f .dlc) (f .bytes) (blockOf s .tsc) (own-length n h g) (a .standard) (a .identifier) (a .dlc) tsc)
   stowed-good f (Reply n c) g a e = g
   stowed-good f (Nowhere c) g a e = g
 

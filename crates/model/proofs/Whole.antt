@@ -34,7 +34,7 @@ module _ (a : Bool) (e : List ℕ) (b : Bytes e) where
       at (Refused r) h n = false≢true (sym n)
       at (Register t v) h n = tt
       at (Mailbox m k v) h n = let x = decoded-allowed a e (Mailbox m k v) b h refl in (x .known, x .wordKnown)
-      at (Heard f) h n = let x = decoded-allowed a e (Heard f) b h refl in record { id = x .identifier; dlc = omega (arith, x .short) }
+      at (Heard f) h n = let x = decoded-allowed a e (Heard f) b h refl in record { id = x .identifier; dlc = x .dlc }
       at Start h n = tt
       at (Outcome k) h n = tt
       at (ReceiveError v) h n = small v (decoded-allowed a e (ReceiveError v) b h refl)

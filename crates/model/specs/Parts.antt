@@ -6,6 +6,7 @@ use lib.ListN.{length}
 use Rattle.registers.specs.Block.{imageBytes, blockOf, putBlock}
 use Rattle.registers.specs.Modes.{risen}
 use Rattle.registers.specs.Frames.{listened}
+use Rattle.mailboxes.specs.Mailbox.{highestDlc}
 use Rattle.events.specs.declared.Frame.{Frame}
 use Rattle.events.specs.declared.Event.{Event}
 use Rattle.events.specs.declared.Event.the-variants.{Refused, Register, Mailbox, Heard, Start, Outcome, ReceiveError, Recessive, Tick, Mode, Options, Reset}
@@ -25,7 +26,7 @@ pub record Loaded (s : List ℕ) : Type 0 where
 -- A frame whose numbers are in their ranges.
 pub record Fit (f : Frame) : Type 0 where
   pub id : f .id .0 < 2 ^ 29
-  pub dlc : f .dlc < 16
+  pub dlc : f .dlc ≤ highestDlc
 
 -- An event whose numbers are. A refusal is none.
 abbrev pub Sized : Event → Type 0

@@ -1,7 +1,7 @@
 -- The rulebook leaves nothing open: of a good image and an event that is not refused, two outcomes that meet it are the same.
 use Prim.Native.Nat.{ℕ, zero, suc, _+_, _-_, _*_, _/_, _<_, _≤_}
 use mathlib.Core.Path.{_≡_, refl, sym, _∙_, ap, subst}
-use mathlib.Core.Bool.{cond, Bool, true, false, _&&_, false≢true}
+use mathlib.Core.Bool.{cond, Bool, true, false, _&&_}
 use mathlib.Core.List.{List, [], _∷_}
 use mathlib.Core.Logic.{inl, inr}
 use native.Mathlib.Decide.{decLt}
@@ -26,7 +26,7 @@ use Rattle.answers.specs.Answer.{Outcome as Result}
 use Rattle.model.proofs.Kept.{Taken as TakenEvent, taken}
 use Rattle.rules.specs.Words.{Words, _has_, _is_, words, byte, box, BoxesStayBut, TRS, RMP, RML, RFP, MBRIF, GIF, REC, MODE, SLOT, OPTIONS}
 use Rattle.rules.specs.Image.{onBus}
-use Rattle.rules.specs.Events.{operation, target, word, value, rtr}
+use Rattle.rules.specs.Events.{operation, target, word, value, carried}
 use Rattle.rules.specs.Writing.{BoxWrite}
 use Rattle.rules.specs.Receiving.{Stored, Frame}
 use Rattle.rules.specs.Sending.{candidate, key, Start, Ending}
@@ -103,14 +103,9 @@ module _ (s x y : List ℕ) (bx : Bytes x) (by : Bytes y) where
   stored-boxes : (e : List ℕ) (n : ℕ) (was a b : Words) → Stored s e n was a x → Stored s e n was b y → Boxes
   stored-boxes e n was a b p q = within n bytes (p .elsewhere) (q .elsewhere)
     where
-      data-byte : (i : ℕ) → i < 8 → (t : Bool) → rtr e ≡ t → Dec (i < target e) → byte x (16 * n + (8 + i)) ≡ byte y (16 * n + (8 + i))
-      data-byte i l true r d =
-          let z : rtr e ≡ false → target e ≤ i = λ f. absurd (false≢true (sym f ∙ r)) in
-          p .old i l z ∙ sym (q .old i l z)
-      data-byte i l false r (yes k) = p .new i l r k ∙ sym (q .new i l r k)
-      data-byte i l false r (no k) =
-          let z : rtr e ≡ false → target e ≤ i = λ f. omega arith in
-          p .old i l z ∙ sym (q .old i l z)
+      data-byte : (i : ℕ) → i < 8 → Dec (i < carried e) → byte x (16 * n + (8 + i)) ≡ byte y (16 * n + (8 + i))
+      data-byte i l (yes k) = p .new i k ∙ sym (q .new i k)
+      data-byte i l (no k) = let z : carried e ≤ i = omega arith in p .old i l z ∙ sym (q .old i l z)
 
       bytes : (i : ℕ) → i < 16 → byte x (16 * n + i) ≡ byte y (16 * n + i)
       bytes i l = at (decLt i 4) (decLt i 8)
@@ -120,7 +115,7 @@ module _ (s x y : List ℕ) (bx : Bytes x) (by : Bytes y) where
           at (no k) (yes d) = word-bytes n 1 (p .word-1 ∙ sym (q .word-1)) i (omega arith) (omega arith)
           at (no k) (no d) =
               let z : 16 * n + (8 + (i - 8)) ≡ 16 * n + i = omega arith in
-              subst (λ (j : ℕ). byte x j ≡ byte y j) z (data-byte (i - 8) (omega arith) (rtr e) refl (decLt (i - 8) (target e)))
+              subst (λ (j : ℕ). byte x j ≡ byte y j) z (data-byte (i - 8) (omega arith) (decLt (i - 8) (carried e)))
 
 -- ---- what two outcomes share
 

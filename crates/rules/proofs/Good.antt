@@ -6,9 +6,9 @@ use mathlib.Core.List.{List, [], _∷_}
 use native.Mathlib.Decide.{decLt}
 use native.Mathlib.Omega.{arith}
 use native.Mathlib.Nat.{mod-lt}
-use lib.Dec.{eqb, leb}
+use lib.Dec.{eqb}
 use lib.Pow.{shr-shr, pow-pos}
-use borrow.Author.Tests.{eqb-true, eq-eqb, leb-true, le-leb}
+use borrow.Author.Tests.{eqb-true, eq-eqb}
 use Rattle.bits.specs.Bit.{digit, bit}
 use Rattle.bits.proofs.Laws.{bit-mask, bit-zero, bit-high, same-below}
 use Rattle.bits.proofs.Sets.{both, and-l, and-r, top-up, top-down}
@@ -59,11 +59,9 @@ laid s n h =
     let w = box s n 1 in
     let p = and-l (wordLayout 0 (box s n 0)) (wordLayout 1 w) h in
     let q = and-r (wordLayout 0 (box s n 0)) (wordLayout 1 w) h in
-    let f = eqb-true _ _ (and-l (eqb (w / 2 ^ 5 % 2 ^ 11) 0) (leb (w % 2 ^ 4) 8) q) in
     record {
       standard = λ z. eqb-true _ _ (rw z at p);
-      others = λ i l k. let e : 5 + (i - 5) ≡ i = omega arith in subst (λ (j : ℕ). bit w j ≡ false) e (field-bits w 5 11 f (i - 5) (omega arith));
-      dlc = leb-true _ _ (and-r (eqb (w / 2 ^ 5 % 2 ^ 11) 0) (leb (w % 2 ^ 4) 8) q);
+      others = λ i l k. let e : 5 + (i - 5) ≡ i = omega arith in subst (λ (j : ℕ). bit w j ≡ false) e (field-bits w 5 11 (eqb-true _ _ q) (i - 5) (omega arith));
     }
 
 lays : (s : List ℕ) (n : ℕ) → Layout s n → layout s n ≡ true
@@ -71,7 +69,7 @@ unfolding layout
 lays s n h =
     let w = box s n 1 in
     both (wordLayout 0 (box s n 0)) (wordLayout 1 w) (at (ide (box s n 0)) refl)
-    (both (eqb (w / 2 ^ 5 % 2 ^ 11) 0) (leb (w % 2 ^ 4) 8) (eq-eqb _ _ (bits-field w 5 11 (λ i l. h .others (5 + i) (omega arith) (omega arith)))) (le-leb _ _ (h .dlc)))
+    (eq-eqb _ _ (bits-field w 5 11 (λ i l. h .others (5 + i) (omega arith) (omega arith))))
   where
     at : (t : Bool) → ide (box s n 0) ≡ t → (t || eqb (box s n 0 % 2 ^ 18) 0) ≡ true
     at true e = refl

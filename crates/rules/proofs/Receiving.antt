@@ -26,10 +26,10 @@ use Rattle.registers.specs.Frames.{listened, wakened, fallen, stored, replied}
 use Rattle.registers.proofs.Laws.{byte-stays, word-stays}
 use Rattle.registers.proofs.Flags.{stored-rmp, stored-rml, stored-mbrif, stored-rfp, stored-gif, replied-trs, listened-gif}
 use Rattle.mailboxes.specs.Mailbox.{mailbox, withMailbox, maskable}
-use Rattle.mailboxes.specs.Filing.{filed, dataBytes}
+use Rattle.mailboxes.specs.Filing.{filed}
 use Rattle.mailboxes.proofs.Laws.{length-mailbox, bytes-mailbox, word-of, byte-in, byte-out, word-in}
 use Rattle.mailboxes.proofs.Spliced.{data-byte}
-use Rattle.mailboxes.proofs.Filed.{length-filed, bytes-filed, filed-word-1, filed-ide, filed-identifier-field, filed-maskable, filed-rfh, filed-new, filed-old, data-bytes-data}
+use Rattle.mailboxes.proofs.Filed.{length-filed, bytes-filed, filed-word-1, filed-ide, filed-identifier-field, filed-maskable, filed-rfh, filed-new, filed-old, data-bytes-le}
 use Rattle.events.specs.declared.Frame.{Frame as EventFrame}
 use Rattle.events.specs.Parts.{frameOf}
 use Rattle.events.proofs.Allowed.{FrameAllowed}
@@ -45,7 +45,7 @@ use Rattle.answers.specs.Answer.{Outcome as Result}
 use Rattle.model.specs.Step.{delivered, stowed, namedBy, countOf}
 use Rattle.model.proofs.Meets.{calm}
 use Rattle.rules.specs.Words.{_has_, _is_, words, box, byte, Only, BoxesStayBut, TRS, RMP, RML, LAM, GAM, RFP, MBRIF, GIF, REC, MODE}
-use Rattle.rules.specs.Events.{value, target, rtr, Answers}
+use Rattle.rules.specs.Events.{value, target, rtr, carried, Answers}
 use Rattle.rules.specs.Receiving.{compared, matters, freed, Matches, First, countTo, Stored, Heard, Frame}
 use Rattle.rules.proofs.Blocks.{ofBlock, only}
 
@@ -193,26 +193,22 @@ module _ (s e : List ℕ) (g : GoodImage s) (by : Bytes e) (ok : FrameAllowed (f
 
     word-1 : box x n 1 ≡ tsc * 65536 + cond (rtr e) 16 0 + target e
     unfolding frameOf
-    word-1 = word-at 1 (lit≤ tt) ∙ filed-word-1 m (fr .ide) (fr .rtr) (fr .id) (fr .dlc) (fr .bytes) tsc size (omega (arith, ok .short)) small
+    word-1 = word-at 1 (lit≤ tt) ∙ filed-word-1 m (fr .ide) (fr .rtr) (fr .id) (fr .dlc) (fr .bytes) tsc size (ok .dlc) small
 
-    new : (i : ℕ) → i < 8 → rtr e ≡ false → i < target e → byte x (16 * n + (8 + i)) ≡ byte e (8 + i)
+    new : (i : ℕ) → i < carried e → byte x (16 * n + (8 + i)) ≡ byte e (8 + i)
     unfolding frameOf
-    new i h r l =
-        let d : dataBytes (rtr e) (target e) ≡ target e = rw r (data-bytes-data (target e) (ok .short)) in
+    new i l =
+        let h : i < 8 = omega (arith, data-bytes-le (rtr e) (target e)) in
         byte-at (8 + i) (omega arith)
-        ∙ filed-new m (fr .ide) (fr .rtr) (fr .id) (fr .dlc) (fr .bytes) tsc size i (rw d l)
+        ∙ filed-new m (fr .ide) (fr .rtr) (fr .id) (fr .dlc) (fr .bytes) tsc size i l
         ∙ data-byte e by i h
 
-    old : (i : ℕ) → i < 8 → (rtr e ≡ false → target e ≤ i) → byte x (16 * n + (8 + i)) ≡ byte s (16 * n + (8 + i))
+    old : (i : ℕ) → i < 8 → carried e ≤ i → byte x (16 * n + (8 + i)) ≡ byte s (16 * n + (8 + i))
     unfolding frameOf mailbox
     old i h l =
         byte-at (8 + i) (omega arith)
-        ∙ filed-old m (fr .ide) (fr .rtr) (fr .id) (fr .dlc) (fr .bytes) tsc size (bytes-mailbox s n (g .bytes)) i h (at (rtr e) refl)
+        ∙ filed-old m (fr .ide) (fr .rtr) (fr .id) (fr .dlc) (fr .bytes) tsc size (bytes-mailbox s n (g .bytes)) i h l
         ∙ (getD-take 16 (drop (16 * n) s) (8 + i) 0 (omega arith) ∙ getD-drop (16 * n) s (8 + i) 0)
-      where
-        at : (t : Bool) → rtr e ≡ t → dataBytes t (target e) ≤ i
-        at true q = omega arith
-        at false q = rw (data-bytes-data (target e) (ok .short)) (l q)
 
     elsewhere : BoxesStayBut n s x
     elsewhere i l o = byte-stays (withMailbox s n m') b i l ∙ byte-out s n m' room size' i o

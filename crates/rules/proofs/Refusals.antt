@@ -19,7 +19,7 @@ use Rattle.words.proofs.Bytes.{Bytes, word-lt}
 use Rattle.registers.specs.declared.Block.{Block}
 use Rattle.registers.specs.Block.{blockOf}
 use Rattle.registers.specs.Status as Status
-use Rattle.mailboxes.specs.Filing.{dataBytes}
+use Rattle.mailboxes.proofs.Filed.{data-bytes-le}
 use Rattle.events.specs.Parts.{payload, quiet, frameAllowed}
 use Rattle.mailboxes.specs.Mailbox.{wordLayout}
 use Rattle.events.specs.Decode.{lastOutcome, knownAs, wakefulAs, quietAs, allowedAs, eventAs, registerAllowed}
@@ -29,7 +29,7 @@ use Rattle.good.specs.Good.{goodImage}
 use Rattle.good.proofs.Image.{GoodImage, image-facts}
 use Rattle.refusals.specs.Refusal as product
 use Rattle.rules.specs.Words.{Words, words, _has_, _is_, byte, box, any}
-use Rattle.rules.specs.Events.{operation, target, word, value, rtr, unknown, asleep, unused, registerBad, wordBad, bad, turned, busy, locked, pointless}
+use Rattle.rules.specs.Events.{operation, target, word, value, rtr, unknown, asleep, carried, highestDlc, unused, registerBad, wordBad, bad, turned, busy, locked, pointless}
 use Rattle.rules.proofs.Any.{any-word}
 use Rattle.rules.proofs.Blocks.{ofBlock, of-block}
 
@@ -129,15 +129,14 @@ register-bad t v h = at (ℕ-discrete t 8) (ℕ-discrete t 9) (ℕ-discrete t 11
 
 word-bad : (j v : ℕ) → not (wordLayout j v) ≡ wordBad j v
 word-bad zero v = not-or (v has 31) (eqb (v % 2 ^ 18) 0) ∙ pad1 _
-word-bad (suc zero) v =
-    not-and (eqb (v / 2 ^ 5 % 2 ^ 11) 0) (leb (v % 16) 8) ∙ ap (λ (x : Bool). not (eqb (v / 2 ^ 5 % 2 ^ 11) 0) || x) (not-leb (v % 16) 8)
+word-bad (suc zero) v = refl
 word-bad (suc (suc j)) v = rw (ne-eqb (suc (suc j)) 0 (λ q. omega arith), ne-eqb (suc (suc j)) 1 (λ q. omega arith))
 
-frame-bad : (e : List ℕ) → not (frameAllowed e) ≡ (ltb 8 (target e) || value e has 29 || not (value e has 31) && not (value e % 2 ^ 18 is 0))
+frame-bad : (e : List ℕ) → not (frameAllowed e) ≡ (ltb highestDlc (target e) || value e has 29 || not (value e has 31) && not (value e % 2 ^ 18 is 0))
 unfolding frameAllowed
 frame-bad e =
-    not-and (leb (target e) 8 && not (value e has 29)) (value e has 31 || value e % 2 ^ 18 is 0)
-    ∙ ap₂ _||_ (not-and (leb (target e) 8) (not (value e has 29)) ∙ ap₂ _||_ (not-leb (target e) 8) (not-not (value e has 29))) (not-or (value e has 31) (value e % 2 ^ 18 is 0))
+    not-and (leb (target e) highestDlc && not (value e has 29)) (value e has 31 || value e % 2 ^ 18 is 0)
+    ∙ ap₂ _||_ (not-and (leb (target e) highestDlc) (not (value e has 29)) ∙ ap₂ _||_ (not-leb (target e) highestDlc) (not-not (value e has 29))) (not-or (value e has 31) (value e % 2 ^ 18 is 0))
 
 -- ---- refusal 4: unused bytes
 
@@ -170,22 +169,6 @@ module _ (e : List ℕ) (b : Bytes e) where
   none : (i : ℕ) → i < 8 → false ≡ ltb i 0
   none i l = sym (le-ltb i 0 (omega arith))
 
-  in-frame : (i : ℕ) → i < 8 → (not (rtr e) && ltb i (target e)) ≡ ltb i (dataBytes (rtr e) (target e))
-  in-frame i l = at (rtr e) (decLt (target e) 8)
-    where
-      at : (t : Bool) → Dec (target e < 8) → (not t && ltb i (target e)) ≡ ltb i (dataBytes t (target e))
-      at true d = none i l
-      at false (yes k) = rw (lt-ltb (target e) 8 k)
-      at false (no k) = rw (le-ltb (target e) 8 (omega arith)) (lt-ltb i (target e) (omega arith) ∙ sym (lt-ltb i 8 l))
-
-  most : (t : Bool) → dataBytes t (target e) ≤ 8
-  most true = omega arith
-  most false = at (decLt (target e) 8)
-    where
-      at : Dec (target e < 8) → dataBytes false (target e) ≤ 8
-      at (yes k) = rw (lt-ltb (target e) 8 k) (omega arith)
-      at (no k) = rw (le-ltb (target e) 8 (omega arith)) (omega arith)
-
   abbrev Fourth : ℕ → Type 0
   Fourth k = not (quietAs k e && allowedAs k e) ≡ (unused k e || bad k e)
 
@@ -200,7 +183,7 @@ module _ (e : List ℕ) (b : Bytes e) where
   fourths : (k : ℕ) → k < 11 → Fourth k
   fourths =
       each Fourth 11
-      ((((((((((((tt, fourth 0 (no-data true false true) (register-bad (target e) (value e) (word-lt e b 4) ∙ pad4 _)), fourth 1 (no-data true true true) (word-bad (word e) (value e) ∙ pad3 _)), fourth 2 (quiet-same true false true _ (λ i. not (rtr e) && ltb i (target e)) (most (rtr e)) in-frame) (frame-bad e ∙ pad2 _)), fourth 3 (no-data false false false) refl), fourth 4 (no-data true false false) refl), fourth 5 (no-data false false true) (pad1 _)), fourth 6 (no-data false false false) refl), fourth 7 (no-data false false false) refl), fourth 8 (no-data false false true) (not-leb (value e) 3)), fourth 9 (no-data false false true) (not-leb (value e) 3)), fourth 10 (no-data false false false) refl))
+      ((((((((((((tt, fourth 0 (no-data true false true) (register-bad (target e) (value e) (word-lt e b 4) ∙ pad4 _)), fourth 1 (no-data true true true) (word-bad (word e) (value e) ∙ pad3 _)), fourth 2 (quiet-same true false true _ (λ i. ltb i (carried e)) (data-bytes-le (rtr e) (target e)) (λ i l. refl)) (frame-bad e ∙ pad2 _)), fourth 3 (no-data false false false) refl), fourth 4 (no-data true false false) refl), fourth 5 (no-data false false true) (pad1 _)), fourth 6 (no-data false false false) refl), fourth 7 (no-data false false false) refl), fourth 8 (no-data false false true) (not-leb (value e) 3)), fourth 9 (no-data false false true) (not-leb (value e) 3)), fourth 10 (no-data false false false) refl))
 
 -- ---- refusal 2
 

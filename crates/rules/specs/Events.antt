@@ -1,14 +1,14 @@
 -- "The events": the fields of an event, and the refusals: 2 to 7 each as a test of the event and the register words.
 use Prim.Native.Nat.{ℕ, _+_, _/_, _%_, _^_, _<_}
 use mathlib.Core.Path.{_≡_}
-use mathlib.Core.Bool.{Bool, true, not, xor, _&&_, _||_}
+use mathlib.Core.Bool.{Bool, true, cond, not, xor, _&&_, _||_}
 use mathlib.Core.List.{List, [], _∷_}
 use lib.Dec.{ltb, leb}
 use lib.ListN.{length}
 use Rattle.bits.specs.Below.{allBelow}
 use Rattle.answers.specs.Answer.{Outcome}
 use Rattle.words.specs.Word.{wordAt}
-use Rattle.rules.specs.Words.{Words, _has_, _is_, words, box, byte, among, any, MC, MD, TRS, RML, LAM, GAM, RFP, CDR, GIF, GIM, BCR1, BCR2, TSC, MODE, SLOT}
+use Rattle.rules.specs.Words.{Words, _has_, _is_, words, box, byte, atMost, among, any, MC, MD, TRS, RML, LAM, GAM, RFP, CDR, GIF, GIM, BCR1, BCR2, TSC, MODE, SLOT}
 use Rattle.rules.specs.Image.{Good}
 
 -- The events: operation, target and word have a byte each, the value four. A frame's value has IDE in bit 31, RTR in bit 30 and the
@@ -28,6 +28,18 @@ value e = wordAt e 4
 abbrev pub rtr : List ℕ → Bool
 rtr e = value e has 30
 
+-- Document 02, c), two rules: the highest DLC of a frame, and the most data bytes that one carries.
+abbrev pub highestDlc : ℕ
+highestDlc = 15
+
+abbrev pub mostDataBytes : ℕ
+mostDataBytes = 8
+
+-- The data bytes that a frame carries, the first of its event: as many as its DLC (the target) says, but eight where it says more; a remote
+-- frame carries none.
+abbrev pub carried : List ℕ → ℕ
+carried e = cond (rtr e) 0 (atMost mostDataBytes (target e))
+
 -- Refusal 2: another length than 16, or a number that nothing has: an operation above 10, a register above 19, a mailbox above 31, a word
 -- above 3, an outcome above 3 (document 02, b). RML and RFP cannot be written.
 abbrev pub unknown : ℕ → List ℕ → Bool
@@ -42,15 +54,15 @@ unknown op e =
 abbrev pub asleep : ℕ → Words → Bool
 asleep op w = among op (0 ∷ 1 ∷ 9 ∷ []) && w MODE is 2
 
--- Refusal 4, unused bytes: a target, a word, byte 3, a value or a data byte that the operation does not use is not 0. Data bytes are for
--- frames that are not remote, and there the first DLC (the target) of them.
+-- Refusal 4, unused bytes: a target, a word, byte 3, a value or a data byte that the operation does not use is not 0. Of the
+-- data bytes a frame uses those that it carries, no other operation any.
 abbrev pub unused : ℕ → List ℕ → Bool
 unused op e =
     not (among op (0 ∷ 1 ∷ 2 ∷ 4 ∷ [])) && not (target e is 0)
     || not (op is 1) && not (word e is 0)
     || not (byte e 3 is 0)
     || not (among op (0 ∷ 1 ∷ 2 ∷ 5 ∷ 8 ∷ 9 ∷ [])) && not (value e is 0)
-    || not (allBelow (λ i. op is 2 && (not (rtr e) && ltb i (target e)) || byte e (8 + i) is 0) 8)
+    || not (allBelow (λ i. op is 2 && ltb i (carried e) || byte e (8 + i) is 0) 8)
 
 -- Refusal 4, what a register does not take.
 abbrev pub registerBad : ℕ → ℕ → Bool
@@ -63,15 +75,15 @@ registerBad t v =
 
 -- Refusal 4, what words 0 and 1 of a mailbox do not take: what its layout rules out.
 abbrev pub wordBad : ℕ → ℕ → Bool
-wordBad j v = j is 0 && (not (v has 31) && not (v % 2 ^ 18 is 0)) || j is 1 && (not (v / 2 ^ 5 % 2 ^ 11 is 0) || ltb 8 (v % 16))
+wordBad j v = j is 0 && (not (v has 31) && not (v % 2 ^ 18 is 0)) || j is 1 && not (v / 2 ^ 5 % 2 ^ 11 is 0)
 
--- Refusal 4, values: those two; a frame with a DLC above 8, with bit 29, or standard with low bits; a receive error that is neither 1 nor 8;
--- a mode or options above 3.
+-- Refusal 4, values: those two; a frame with a DLC above the highest, with bit 29, or standard with low bits; a receive error that is neither
+-- 1 nor 8; a mode or options above 3.
 abbrev pub bad : ℕ → List ℕ → Bool
 bad op e =
     op is 0 && registerBad (target e) (value e)
     || op is 1 && wordBad (word e) (value e)
-    || op is 2 && (ltb 8 (target e) || value e has 29 || not (value e has 31) && not (value e % 2 ^ 18 is 0))
+    || op is 2 && (ltb highestDlc (target e) || value e has 29 || not (value e has 31) && not (value e % 2 ^ 18 is 0))
     || op is 5 && not (value e is 1 || value e is 8)
     || among op (8 ∷ 9 ∷ []) && ltb 3 (value e)
 

@@ -8,12 +8,11 @@ use mathlib.Core.Logic.{_≢_}
 use lib.ListN.{length}
 use Rattle.rules.specs.Words.{Words, _has_, _is_, words, box, among, MC, MD, TRS, TRR, TA, AA, RMP, RML, LAM, GAM, RFP, CDR, MBTIF, GIF, GIM, BCR1, BCR2, TSC, TEC, REC, MODE, WAITING, SLOT, RECOVERY, OPTIONS, TSO}
 
--- The image, a mailbox: without IDE the low 18 bits of word 0 are zero; of word 1 bits 15 to 5 are zero and the DLC, its lowest four bits,
--- is not above 8.
+-- The image, a mailbox: without IDE the low 18 bits of word 0 are zero; of word 1 bits 15 to 5 are zero. The DLC, the lowest four bits of
+-- word 1, may be any (document 02, c).
 pub record Layout (s : List ℕ) (n : ℕ) : Type 0 where
   pub standard : box s n 0 has 31 ≡ false → box s n 0 % 2 ^ 18 ≡ 0
   pub others : (i : ℕ) → 5 ≤ i → i < 16 → box s n 1 has i ≡ false
-  pub dlc : box s n 1 % 16 ≤ 8
 
 -- The image, its register words.
 pub record GoodWords (w : Words) : Type 0 where

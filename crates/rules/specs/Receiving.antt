@@ -8,7 +8,7 @@ use Rattle.bits.specs.Below.{countBelow}
 use Rattle.answers.specs.Answer.{Outcome}
 use Rattle.rules.specs.Words.{_has_, _is_, _has-bits_, Words, words, box, byte, Only, BoxesStayBut, MC, MD, TRS, RMP, RML, LAM, GAM, RFP, MBRIF, MBIM, GIF, TSC, REC, MODE, OPTIONS}
 use Rattle.rules.specs.Image.{onBus}
-use Rattle.rules.specs.Events.{target, value, rtr, Answers}
+use Rattle.rules.specs.Events.{target, value, rtr, carried, Answers}
 
 -- Is the frame compared with mailbox n? With enabled ones that receive; a remote frame with those that transmit too.
 abbrev pub compared : List ℕ → List ℕ → ℕ → Bool
@@ -39,13 +39,13 @@ abbrev pub countTo : List ℕ → List ℕ → ℕ → ℕ
 countTo s e n = countBelow (compared s e) n
 
 -- The frame is stored in mailbox n, whose bytes become those of x. Word 0 keeps bits 30 and 29 and takes IDE and the identifier; word 1 is
--- made of TSC, RTR and the DLC; a data frame brings its first DLC data bytes, all others stay. RMP tells of it, RML and bit 5 of GIF that
+-- made of TSC, RTR and the DLC, the number as it came; the data bytes that the frame carries are the first, all others stay. RMP tells of it, RML and bit 5 of GIF that
 -- a frame was there already, MBRIF where MBIM asks for it, RFP and bit 7 of GIF that it is remote.
 pub record Stored (s e : List ℕ) (n : ℕ) (was now : Words) (x : List ℕ) : Type 0 where
   pub word-0 : box x n 0 has-bits (λ i. cond (i is 30 || i is 29) (box s n 0 has i) (value e has i))
   pub word-1 : box x n 1 ≡ was TSC * 65536 + cond (rtr e) 16 0 + target e
-  pub new : (i : ℕ) → i < 8 → rtr e ≡ false → i < target e → byte x (16 * n + (8 + i)) ≡ byte e (8 + i)
-  pub old : (i : ℕ) → i < 8 → (rtr e ≡ false → target e ≤ i) → byte x (16 * n + (8 + i)) ≡ byte s (16 * n + (8 + i))
+  pub new : (i : ℕ) → i < carried e → byte x (16 * n + (8 + i)) ≡ byte e (8 + i)
+  pub old : (i : ℕ) → i < 8 → carried e ≤ i → byte x (16 * n + (8 + i)) ≡ byte s (16 * n + (8 + i))
   pub elsewhere : BoxesStayBut n s x
   pub rml : now RML has-bits (λ m. was RML has m || was RMP has m && m is n)
   pub rmp : now RMP has-bits (λ m. was RMP has m || m is n)

@@ -12,9 +12,6 @@ identifier-sum-requires c κs = search needs
 word-requires-2 : tie.Need-word-requires-2
 word-requires-2 c κs = search needs
 
-control-sum-requires : tie.Need-control-sum-requires
-control-sum-requires c κs = search needs
-
 returns : tie.Need-returns
 unfolding layout
 returns c = cc
@@ -22,4 +19,4 @@ returns c = cc
 pub sums-of-spec : {M : Type 1} → statement M
 sums-of-spec =
     tie.close
-    (tie.spec word-requires identifier-sum-requires word-requires-2 control-sum-requires returns)
+    (tie.spec word-requires identifier-sum-requires word-requires-2 returns)
