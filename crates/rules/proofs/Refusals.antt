@@ -29,7 +29,7 @@ use Rattle.good.specs.Good.{goodImage}
 use Rattle.good.proofs.Image.{GoodImage, image-facts}
 use Rattle.refusals.specs.Refusal as product
 use Rattle.rules.specs.Words.{Words, words, _has_, _is_, byte, box, any}
-use Rattle.rules.specs.Events.{operation, target, word, value, rtr, unknown, asleep, carried, highestDlc, unused, registerBad, wordBad, bad, turned, busy, locked, pointless}
+use Rattle.rules.specs.Events.{operation, target, word, value, rtr, highestDlc, unknown, asleep, usesData, unused, registerBad, wordBad, bad, turned, busy, locked, pointless}
 use Rattle.rules.proofs.Any.{any-word}
 use Rattle.rules.proofs.Blocks.{ofBlock, of-block}
 
@@ -183,7 +183,7 @@ module _ (e : List ℕ) (b : Bytes e) where
   fourths : (k : ℕ) → k < 11 → Fourth k
   fourths =
       each Fourth 11
-      ((((((((((((tt, fourth 0 (no-data true false true) (register-bad (target e) (value e) (word-lt e b 4) ∙ pad4 _)), fourth 1 (no-data true true true) (word-bad (word e) (value e) ∙ pad3 _)), fourth 2 (quiet-same true false true _ (λ i. ltb i (carried e)) (data-bytes-le (rtr e) (target e)) (λ i l. refl)) (frame-bad e ∙ pad2 _)), fourth 3 (no-data false false false) refl), fourth 4 (no-data true false false) refl), fourth 5 (no-data false false true) (pad1 _)), fourth 6 (no-data false false false) refl), fourth 7 (no-data false false false) refl), fourth 8 (no-data false false true) (not-leb (value e) 3)), fourth 9 (no-data false false true) (not-leb (value e) 3)), fourth 10 (no-data false false false) refl))
+      ((((((((((((tt, fourth 0 (no-data true false true) (register-bad (target e) (value e) (word-lt e b 4) ∙ pad4 _)), fourth 1 (no-data true true true) (word-bad (word e) (value e) ∙ pad3 _)), fourth 2 (quiet-same true false true _ (usesData 2 e) (data-bytes-le (rtr e) (target e)) (λ i l. refl)) (frame-bad e ∙ pad2 _)), fourth 3 (no-data false false false) refl), fourth 4 (no-data true false false) refl), fourth 5 (no-data false false true) (pad1 _)), fourth 6 (no-data false false false) refl), fourth 7 (no-data false false false) refl), fourth 8 (no-data false false true) (not-leb (value e) 3)), fourth 9 (no-data false false true) (not-leb (value e) 3)), fourth 10 (no-data false false false) refl))
 
 -- ---- refusal 2
 

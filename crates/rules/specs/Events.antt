@@ -54,15 +54,18 @@ unknown op e =
 abbrev pub asleep : ℕ → Words → Bool
 asleep op w = among op (0 ∷ 1 ∷ 9 ∷ []) && w MODE is 2
 
--- Refusal 4, unused bytes: a target, a word, byte 3, a value or a data byte that the operation does not use is not 0. Of the
--- data bytes a frame uses those that it carries, no other operation any.
+-- Does an operation use data byte i? A frame uses those that it carries, no other operation uses any.
+abbrev pub usesData : ℕ → List ℕ → ℕ → Bool
+usesData op e i = op is 2 && ltb i (carried e)
+
+-- Refusal 4, unused bytes: a target, a word, byte 3, a value or a data byte that the operation does not use is not 0.
 abbrev pub unused : ℕ → List ℕ → Bool
 unused op e =
     not (among op (0 ∷ 1 ∷ 2 ∷ 4 ∷ [])) && not (target e is 0)
     || not (op is 1) && not (word e is 0)
     || not (byte e 3 is 0)
     || not (among op (0 ∷ 1 ∷ 2 ∷ 5 ∷ 8 ∷ 9 ∷ [])) && not (value e is 0)
-    || not (allBelow (λ i. op is 2 && ltb i (carried e) || byte e (8 + i) is 0) 8)
+    || not (allBelow (λ i. usesData op e i || byte e (8 + i) is 0) 8)
 
 -- Refusal 4, what a register does not take.
 abbrev pub registerBad : ℕ → ℕ → Bool
