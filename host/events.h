@@ -42,7 +42,7 @@ static inline struct event data_frame(uint32_t identifier, int dlc, uint64_t dat
 {
     struct event e = plain_event(FROSTSORREL_FRAME, dlc, 0, identifier);
 
-    for (int i = 0; i < 8; i++)
+    for (int i = 0; i < FROSTSORREL_MOST_DATA_BYTES; i++)
         e.bytes[8 + i] = (uint8_t)(data >> 8 * i);
     return e;
 }

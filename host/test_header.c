@@ -47,6 +47,10 @@ static void sizes(void)
     same_number("an entry", FROSTSORREL_ENTRY_BYTES, 4 + 4 + 4);
     same_number("room for any list of differences", FROSTSORREL_DIFFERENCE_BYTES,
                 FROSTSORREL_ENTRY_BYTES * FROSTSORREL_IMAGE_WORDS);
+    same_number("the data bytes of a mailbox", FROSTSORREL_MOST_DATA_BYTES, 2 * 4);
+    same_number("those of an event", FROSTSORREL_MOST_DATA_BYTES, FROSTSORREL_EVENT_BYTES - 8);
+    same_number("the highest DLC", FROSTSORREL_HIGHEST_DLC, 15);
+    same_number("which fills its bits", FROSTSORREL_HIGHEST_DLC, FROSTSORREL_DLC_BITS);
 }
 
 /* ---- identifiers */
@@ -87,9 +91,35 @@ static void same_event(const char *what, const uint8_t *got, const uint8_t *even
     check(strcmp(text, expected) == 0, "%s: %s, not %s", what, text, expected);
 }
 
-static void events(void)
+/* As many bytes as the DLC says, and at most eight; a DLC above 15 is for a step to refuse. */
+static void data_frames(void)
 {
     static const uint8_t data[9] = {0x11, 0x22, 0x33, 0x44, 0x55, 0x66, 0x77, 0x88, 0x99};
+    static const struct {
+        uint8_t dlc;
+        const char *event;
+    } frames[] = {
+        {0, "02 00 00 00 01 00 00 80 00 00 00 00 00 00 00 00"},
+        {1, "02 01 00 00 01 00 00 80 11 00 00 00 00 00 00 00"},
+        {7, "02 07 00 00 01 00 00 80 11 22 33 44 55 66 77 00"},
+        {8, "02 08 00 00 01 00 00 80 11 22 33 44 55 66 77 88"},
+        {9, "02 09 00 00 01 00 00 80 11 22 33 44 55 66 77 88"},
+        {15, "02 0f 00 00 01 00 00 80 11 22 33 44 55 66 77 88"},
+        {16, "02 10 00 00 01 00 00 80 11 22 33 44 55 66 77 88"},
+        {255, "02 ff 00 00 01 00 00 80 11 22 33 44 55 66 77 88"},
+    };
+    uint8_t e[FROSTSORREL_EVENT_BYTES + 1];
+
+    for (size_t i = 0; i < COUNT(frames); i++) {
+        memset(e, GUARD, sizeof e);
+        same_event("a data frame", frostsorrel_data_frame(e, frostsorrel_extended(1), frames[i].dlc, data), e,
+                   frames[i].event);
+    }
+}
+
+static void events(void)
+{
+    static const uint8_t data[2] = {0x11, 0x22};
     uint8_t e[FROSTSORREL_EVENT_BYTES + 1];
 
     memset(e, GUARD, sizeof e);
@@ -109,11 +139,11 @@ static void events(void)
     same_event("no data at all", frostsorrel_data_frame(e, frostsorrel_extended(1), 0, NULL), e,
                "02 00 00 00 01 00 00 80 00 00 00 00 00 00 00 00");
     memset(e, GUARD, sizeof e);
-    same_event("nine data bytes", frostsorrel_data_frame(e, frostsorrel_extended(1), 9, data), e,
-               "02 09 00 00 01 00 00 80 11 22 33 44 55 66 77 88");
-    memset(e, GUARD, sizeof e);
     same_event("a remote frame", frostsorrel_remote_frame(e, frostsorrel_extended(0x11234567), 8), e,
                "02 08 00 00 67 45 23 d1 00 00 00 00 00 00 00 00");
+    memset(e, GUARD, sizeof e);
+    same_event("a remote frame of DLC 15", frostsorrel_remote_frame(e, frostsorrel_standard(0x123), 15), e,
+               "02 0f 00 00 00 00 8c 44 00 00 00 00 00 00 00 00");
     memset(e, GUARD, sizeof e);
     same_event("sent", frostsorrel_outcome(e, FROSTSORREL_SENT), e,
                "04 00 00 00 00 00 00 00 00 00 00 00 00 00 00 00");
@@ -139,6 +169,20 @@ static void words(void)
     same_number("TSO", frostsorrel_register_word(image, FROSTSORREL_WORD_TSO), 0x79787776);
     image[3] = 0xFF;
     same_number("a word's top bit", frostsorrel_mailbox_word(image, 0, 0), 0xFF020100);
+}
+
+/* ---- how many data bytes there are, by word 1: the time stamp and bits 15 to 5 say nothing about it */
+
+static void data_bytes(void)
+{
+    static const uint32_t bytes[] = {0, 1, 2, 3, 4, 5, 6, 7, 8, 8, 8, 8, 8, 8, 8, 8};
+
+    for (uint32_t dlc = 0; dlc < COUNT(bytes); dlc++) {
+        same_number("the data bytes of a frame", frostsorrel_data_bytes(dlc), bytes[dlc]);
+        same_number("the same, with a time stamp", frostsorrel_data_bytes(0xFFFF0000 | dlc), bytes[dlc]);
+        same_number("the same, whatever bits 15 to 5 are", frostsorrel_data_bytes(0xFFE0 | dlc), bytes[dlc]);
+        same_number("those of a remote frame", frostsorrel_data_bytes(FROSTSORREL_RTR | dlc), 0);
+    }
 }
 
 /* ---- a list of two entries, by hand: word 3 of mailbox 31, then TSO */
@@ -262,7 +306,9 @@ int main(int argc, char **argv)
     sizes();
     identifiers();
     events();
+    data_frames();
     words();
+    data_bytes();
     entries();
     answers();
     bits();

@@ -25,9 +25,9 @@
 extern "C" {
 #endif
 
-#define FROSTSORREL_VERSION "0.3.0"
+#define FROSTSORREL_VERSION "0.4.0"
 #define FROSTSORREL_VERSION_MAJOR 0
-#define FROSTSORREL_VERSION_MINOR 3
+#define FROSTSORREL_VERSION_MINOR 4
 #define FROSTSORREL_VERSION_PATCH 0
 
 #define FROSTSORREL_IMAGE_BYTES 640
@@ -141,9 +141,16 @@ enum { FROSTSORREL_NO_MODE = 4, FROSTSORREL_EMPTY_SLOT = 31 };
 #define FROSTSORREL_IDENTIFIER_BITS 0x1FFFFFFFu /* a standard identifier is in the upper 11 of these */
 #define FROSTSORREL_FRAME_RTR 0x40000000u       /* in the value of a frame event: a remote frame */
 
-/* Word 1 of a mailbox. Its time stamp is in bits 31 to 16. */
+/* Word 1 of a mailbox. Its time stamp is in bits 31 to 16, and bits 15 to 5 are 0. */
 #define FROSTSORREL_RTR 0x10u
 #define FROSTSORREL_DLC_BITS 0xFu
+
+/*
+ * The DLC of a frame, and of a mailbox, says how many data bytes a data frame carries. ISO 11898-1 lets
+ * it be 9 to 15 in a classic frame, which then carries eight. The number is kept as it came.
+ */
+#define FROSTSORREL_HIGHEST_DLC 15    /* a frame with a higher one gets refusal 4 */
+#define FROSTSORREL_MOST_DATA_BYTES 8 /* also of a higher DLC */
 
 /* The bits of GIF, by the manual's names. */
 enum {
@@ -200,7 +207,7 @@ uint64_t frostsorrel_fresh(uint8_t *image, size_t image_len);
  *    operation                   target      word    value
  *    0  register write           0 to 19             what is written
  *    1  mailbox write            0 to 31     0 to 3  what is written
- *    2  frame                    its DLC             bit 31 IDE, 30 RTR, 28 to 0 identifier
+ *    2  frame                    DLC 0 to 15         bit 31 IDE, 30 RTR, 28 to 0 identifier
  *    3  start of a sending
  *    4  outcome of the sending   0 to 3
  *    5  receive error                                1 or 8
@@ -210,7 +217,7 @@ uint64_t frostsorrel_fresh(uint8_t *image, size_t image_len);
  *    9  options                                      bit 0 MTOS, bit 1 WUBA
  *   10  reset
  *
- * The data bytes belong to data frames alone, the first DLC of them.
+ * The data bytes belong to data frames alone: the first DLC of them, or all eight if the DLC is above 8.
  *
  * A refused event gets the lowest number that applies, mailbox 32 and count 0, and not one byte of
  * the image is written:
@@ -219,7 +226,7 @@ uint64_t frostsorrel_fresh(uint8_t *image, size_t image_len);
  *   2  event_len is not 16; or there is no such operation, register, mailbox, word or outcome; or it
  *      writes RML or RFP, which can only be read
  *   3  the model is asleep, and this is a register write, a mailbox write or options
- *   4  an unused byte is not 0, or the value is not allowed
+ *   4  an unused byte is not 0, or the value is not allowed, or a frame has a DLC above 15
  *   5  busy: a frame, start or receive error while a mailbox is in the slot; a write to that mailbox,
  *      or to one whose TRS is set and CDR is not; an MC write that turns off, or an MD write that
  *      turns round, a mailbox with TRS set
@@ -230,8 +237,9 @@ uint64_t frostsorrel_fresh(uint8_t *image, size_t image_len);
  *   7  an outcome while no mailbox is in the slot
  *
  * An accepted event leaves a good image again, the one that document 01 lays down (its sections
- * "Writing", "Receiving" and "Sending, errors, modes", and for outcome 3 request b) of document 02;
- * docs/DECISIONS.md settles what they leave open), and the answer has refusal 0 and
+ * "Writing", "Receiving" and "Sending, errors, modes"; for outcome 3 request b) of document 02, and for
+ * a DLC above 8 its request c); docs/DECISIONS.md settles what they leave open), and the answer has
+ * refusal 0 and
  *
  *   for a frame      the mailbox that stored it or is to reply to it, else 32; the count says how
  *                    many mailboxes were compared with it
@@ -354,8 +362,9 @@ static inline uint8_t *frostsorrel_write_mailbox(uint8_t *event, uint8_t mailbox
 }
 
 /*
- * A data frame with the first dlc bytes of data; of a dlc above 8, which a step refuses, the first
- * eight. The identifier is frostsorrel_standard(..) or frostsorrel_extended(..).
+ * A data frame with the first dlc bytes of data, or the first eight where dlc is above 8. Above 15 it is
+ * built all the same, and a step refuses it. The identifier is frostsorrel_standard(..) or
+ * frostsorrel_extended(..).
  */
 static inline uint8_t *frostsorrel_data_frame(uint8_t *event, uint32_t identifier, uint8_t dlc,
                                               const uint8_t *data)
@@ -363,7 +372,7 @@ static inline uint8_t *frostsorrel_data_frame(uint8_t *event, uint32_t identifie
     int i;
 
     frostsorrel_event(event, FROSTSORREL_FRAME, dlc, 0, identifier);
-    for (i = 0; i < 8 && i < dlc; i++)
+    for (i = 0; i < FROSTSORREL_MOST_DATA_BYTES && i < dlc; i++)
         event[8 + i] = data[i];
     return event;
 }
@@ -403,6 +412,19 @@ static inline uint32_t frostsorrel_mailbox_word(const uint8_t *image, uint32_t m
 static inline uint8_t frostsorrel_mailbox_data(const uint8_t *image, uint32_t mailbox, uint32_t byte)
 {
     return image[16 * mailbox + 8 + byte];
+}
+
+/*
+ * How many data bytes the frame of a mailbox has, by its word 1: none where RTR is set, else as many as the
+ * DLC says, and at most eight. What else stands in the data bytes is no part of it.
+ */
+static inline uint32_t frostsorrel_data_bytes(uint32_t word_1)
+{
+    uint32_t dlc = word_1 & FROSTSORREL_DLC_BITS;
+
+    if (word_1 & FROSTSORREL_RTR)
+        return 0;
+    return dlc < FROSTSORREL_MOST_DATA_BYTES ? dlc : FROSTSORREL_MOST_DATA_BYTES;
 }
 
 /*
