@@ -1,6 +1,6 @@
 /*
- * Document 01, and of document 02 the comparison of two images and the outcome for a missing
- * acknowledgement, in plain C. "D12" and the like are entries of docs/DECISIONS.md.
+ * Document 01, and of document 02 the comparison of two images, the outcome for a missing acknowledgement
+ * and DLC 9 to 15, in plain C. "D12" and the like are entries of docs/DECISIONS.md.
  */
 #include "reference.h"
 
@@ -32,7 +32,10 @@ enum { EMPTY = 31, BUS_OFF = 256, NO_MAILBOX = 32 };
 #define BASE 0x1FFC0000u /* the 11 bits of a standard identifier */
 #define LOW 0x0003FFFFu  /* the 18 bits that only an extended one has */
 
-#define RTR 0x10u /* in word 1 of a mailbox */
+/* Word 1 of a mailbox: any DLC in bits 3 to 0. */
+#define RTR 0x10u
+#define CONTROL_SPARE 0xFFE0u
+
 #define MAILBOX_31 0x80000000u
 
 enum { MTOS = 1, WUBA = 2 };
@@ -126,25 +129,24 @@ static inline uint32_t stray_identifier(uint32_t word)
     return word & LOW & ((word >> 31) - 1);
 }
 
-/* The same for a word 1: bits 15 to 5, and a bit 4 that appears when the DLC is above 8. */
+/* The same for a word 1: bits 15 to 5. */
 static inline uint32_t stray_control(uint32_t word)
 {
-    return (word & 0xFFE0) | (((word & 0xF) + 7) & 0x10);
+    return word & CONTROL_SPARE;
 }
 
 /* The two tests above over all mailboxes at once: what they ask for is gathered, and looked at last. */
 static bool good_mailboxes(const uint8_t *image)
 {
-    uint32_t standard = 0, control = 0, length = 0;
+    uint32_t standard = 0, control = 0;
 
     for (unsigned n = 0; n < 32; n++) {
-        uint32_t first = get(image, 4 * n), second = get(image, 4 * n + 1);
+        uint32_t first = get(image, 4 * n);
 
         standard |= first & ((first >> 31) - 1);
-        control |= second;
-        length |= (second & 0xF) + 7;
+        control |= get(image, 4 * n + 1);
     }
-    return ((standard & LOW) | (control & 0xFFE0) | (length & 0x10)) == 0;
+    return ((standard & LOW) | stray_control(control)) == 0;
 }
 
 /* Bits that no good image has, whatever the other words say. */
@@ -422,21 +424,23 @@ static uint64_t write_mailbox(uint8_t *image, struct event e)
 #define FRAME_RTR 0x40000000u /* in a frame's value */
 #define FRAME_SPARE 0x20000000u
 
-/* The places of the data bytes below this number. */
-static inline uint64_t bytes_below(uint32_t count)
+enum { HIGHEST_DLC = 15, MOST_BYTES = 8 }; /* a DLC above 8 stands for eight bytes */
+
+/* The places of the data bytes that a DLC stands for. */
+static inline uint64_t bytes_of(uint32_t dlc)
 {
-    return count < 8 ? (UINT64_C(1) << 8 * count) - 1 : ~UINT64_C(0);
+    return dlc < MOST_BYTES ? (UINT64_C(1) << 8 * dlc) - 1 : ~UINT64_C(0);
 }
 
-/* The data bytes that a frame brings; a remote frame brings none. */
+/* The data bytes that a frame brings; a remote frame brings none, whatever its DLC. */
 static inline uint64_t carried(struct event e)
 {
-    return value(e) & FRAME_RTR ? 0 : bytes_below(target(e));
+    return value(e) & FRAME_RTR ? 0 : bytes_of(target(e));
 }
 
 static bool allowed_frame(struct event e)
 {
-    return (e.head & (WORD | BYTE_3)) == 0 && target(e) <= 8 && !(value(e) & FRAME_SPARE) &&
+    return (e.head & (WORD | BYTE_3)) == 0 && target(e) <= HIGHEST_DLC && !(value(e) & FRAME_SPARE) &&
            stray_identifier(value(e)) == 0 && (e.data & ~carried(e)) == 0;
 }
 

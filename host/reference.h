@@ -1,6 +1,6 @@
 /*
- * A second implementation of document 01 and of requests a) and b) of document 02, in plain C, apart from
- * the proved one: it was written from these and docs/DECISIONS.md alone. The tests hold the two against
+ * A second implementation of document 01 and of requests a), b) and c) of document 02, in plain C, apart
+ * from the proved one: it was written from these and docs/DECISIONS.md alone. The tests hold the two against
  * each other.
  *
  * The first four functions have the signatures and the answers of those in frostsorrel.h.
