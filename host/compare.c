@@ -7,7 +7,8 @@
  * Registers are read and models made fresh along the way, and pairs of images compared: equal ones, such
  * that differ in one word or in nearly all, two of a run, bad ones on either side, with too little room for
  * the list, just enough, and more. A line before the sum says how often outcome 3 was taken, and how often by a
- * model that was passive before it, since the two count TEC differently, and how often only REC made it so.
+ * model that was passive before it, since the two count TEC differently, and how often only REC made it so. Another
+ * says how many frames with a DLC above 8 were stored, data and remote ones, and how many had one above 15.
  */
 #include <stdlib.h>
 
@@ -148,9 +149,9 @@ static void explain(struct trial t)
         print_words("library, and reference", ours.arena + GUARD, theirs.arena + GUARD);
 }
 
-/* ---- outcome 3, as it was taken by models that were error active before it, passive by TEC, and by REC alone */
+#define LONG_ENOUGH 10000 /* steps, in which everything is met that is counted below */
 
-#define LONG_ENOUGH 10000 /* steps, in which all three are met */
+/* ---- outcome 3, as it was taken by models that were error active before it, passive by TEC, and by REC alone */
 
 static unsigned long by_active, by_tec, by_rec_alone;
 
@@ -180,6 +181,47 @@ static void check_unacknowledged(unsigned long steps)
            by_rec_alone);
     check(steps < LONG_ENOUGH || (by_active > 0 && by_tec > 0 && by_rec_alone > 0),
           "outcome 3 was not met error active, passive by TEC and passive by REC alone");
+}
+
+/* ---- DLC 9 to 15, as frames had them that were stored; and those above, which are refused for that alone */
+
+static unsigned long data_stored, remote_stored, dlc_refused;
+
+static int is_stored(const struct trial *t, uint64_t answer)
+{
+    uint32_t n = frostsorrel_answer_mailbox(answer);
+
+    return frostsorrel_answer_refusal(answer) == FROSTSORREL_ACCEPTED && n < FROSTSORREL_MAILBOXES &&
+           word_of(t->image, MD) >> n & 1;
+}
+
+/* With the highest that is allowed in its place, refusal 4 would have no reason. */
+static int is_refused_for_its_dlc(struct trial t, uint64_t answer)
+{
+    if (frostsorrel_answer_refusal(answer) != FROSTSORREL_NOT_ALLOWED)
+        return 0;
+    t.event[1] = FROSTSORREL_HIGHEST_DLC;
+    return frostsorrel_answer_refusal(result_of(&t, reference_step).answer) != FROSTSORREL_NOT_ALLOWED;
+}
+
+static void count_dlc(const struct trial *t, uint64_t answer)
+{
+    if (t->event[0] != FROSTSORREL_FRAME || t->event[1] <= FROSTSORREL_MOST_DATA_BYTES)
+        return;
+    if (t->event[1] > FROSTSORREL_HIGHEST_DLC)
+        dlc_refused += is_refused_for_its_dlc(*t, answer);
+    else if (is_stored(t, answer) && frostsorrel_event_value(t->event) & FROSTSORREL_FRAME_RTR)
+        remote_stored++;
+    else if (is_stored(t, answer))
+        data_stored++;
+}
+
+static void check_dlc(unsigned long steps)
+{
+    printf("DLC 9 to 15: %lu frames stored, of them %lu remote; above 15: %lu refused\n",
+           data_stored + remote_stored, remote_stored, dlc_refused);
+    check(steps < LONG_ENOUGH || (data_stored > 0 && remote_stored > 0 && dlc_refused > 0),
+          "a data frame of DLC 9 to 15 stored, such a remote frame, and a DLC above 15 were not all met");
 }
 
 /* ---- what is tried */
@@ -238,6 +280,7 @@ static void compare_step(unsigned long number)
     if (!equal(&ours, &theirs) && explained++ < MOST_EXPLAINED)
         explain(t);
     count_unacknowledged(&t, ours.answer);
+    count_dlc(&t, ours.answer);
     if (source == REACHED)
         memcpy(reached, theirs.arena + GUARD, BYTES);
     if (source == BUILT)
@@ -581,6 +624,7 @@ int main(int argc, char **argv)
             compare_images(number);
     }
     check_unacknowledged(steps);
+    check_dlc(steps);
     snprintf(name, sizeof name, "host compare, %lu steps, seed %lu", steps, seed);
     return report(name);
 }

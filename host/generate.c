@@ -76,8 +76,8 @@ static uint32_t few_flags(void)
 /* A value at or past the end of what is allowed somewhere. */
 static uint32_t edge_value(void)
 {
-    static const uint32_t edges[] = {0, 1, 2, 3, 4, 5, 8, 9, 31, 32, 127, 128, 255, 256, 257, 1023, 1024,
-                                     65535, 65536, 0x7FFFFFFF, BIT_31, 0xFFFFFFFF};
+    static const uint32_t edges[] = {0, 1, 2, 3, 4, 5, 8, 9, 15, 16, 31, 32, 127, 128, 255, 256, 257, 1023,
+                                     1024, 65535, 65536, 0x7FFFFFFF, BIT_31, 0xFFFFFFFF};
 
     return one_in(3) ? 1u << draw(32) : ONE_OF(edges);
 }
@@ -114,9 +114,19 @@ static uint32_t any_word_0(void)
     return identifier | masked | rfh;
 }
 
+#define DLCS (FROSTSORREL_HIGHEST_DLC + 1)
+
+/* Half of them stand where the rule for the data bytes changes, or at the end. */
+static uint32_t any_dlc(void)
+{
+    static const uint32_t edges[] = {7, 8, 9, FROSTSORREL_HIGHEST_DLC};
+
+    return one_in(2) ? ONE_OF(edges) : draw(DLCS);
+}
+
 static uint32_t any_word_1(void)
 {
-    uint32_t stamp = draw(65536), rtr = draw(2), dlc = draw(9);
+    uint32_t stamp = draw(65536), rtr = draw(2), dlc = any_dlc();
 
     return CONTROL(stamp, rtr, dlc);
 }
@@ -132,14 +142,47 @@ static uint32_t any_mailbox_word(int k)
 
 /* ---- events */
 
+static struct event any_remote_frame(uint32_t dlc)
+{
+    return remote_frame(any_identifier(), (int)dlc);
+}
+
+static struct event any_data_frame(uint32_t dlc)
+{
+    uint8_t data[FROSTSORREL_MOST_DATA_BYTES];
+    struct event e;
+
+    draw_bytes(data, sizeof data);
+    frostsorrel_data_frame(e.bytes, any_identifier(), (uint8_t)dlc, data);
+    return e;
+}
+
+static struct event any_frame_of(uint32_t dlc)
+{
+    return one_in(3) ? any_remote_frame(dlc) : any_data_frame(dlc);
+}
+
 static struct event any_frame(void)
 {
-    uint64_t low = any_word(), data = (uint64_t)any_word() << 32 | low;
-    int dlc = (int)draw(9);
+    return any_frame_of(any_dlc());
+}
 
-    if (one_in(3))
-        return remote_frame(any_identifier(), dlc);
-    return data_frame(any_identifier(), dlc, dlc < 8 ? data & ((UINT64_C(1) << 8 * dlc) - 1) : data);
+/* With a data byte that is not carried: the next one, or any one of a remote frame. */
+static struct event frame_with_a_byte_more(void)
+{
+    int remote = one_in(2);
+    uint32_t dlc = remote ? any_dlc() : draw(FROSTSORREL_MOST_DATA_BYTES);
+    uint32_t at = remote ? draw(FROSTSORREL_MOST_DATA_BYTES) : dlc, byte = 1 + draw(255);
+
+    return with_byte(remote ? any_remote_frame(dlc) : any_data_frame(dlc), 8 + (int)at, (int)byte);
+}
+
+/* What a frame is refused for that has to do with its DLC. */
+static struct event bad_frame(void)
+{
+    if (one_in(2))
+        return frame_with_a_byte_more();
+    return any_frame_of(one_in(2) ? DLCS : DLCS + draw(256 - DLCS));
 }
 
 /* Most of them let the model leave configuration. */
@@ -175,6 +218,15 @@ static struct event any_mailbox_write(const uint8_t *image, int k)
     uint32_t n = one_in(4) ? word_of(image, SLOT) % 32 : draw(32);
 
     return write_mailbox((int)n, k, any_mailbox_word(k));
+}
+
+/* Word 1 with one of bits 15 to 5. */
+static struct event bad_mailbox_write(const uint8_t *image)
+{
+    struct event e = any_mailbox_write(image, 1);
+
+    put(e.bytes, 1, word_of(e.bytes, 1) | 1u << (5 + draw(11)));
+    return e;
 }
 
 /* Setting up, while no mailbox is enabled: what the rest of a run will meet. */
@@ -254,8 +306,8 @@ static struct event event_of_any_operation(const uint8_t *image)
     switch (draw(16)) {
     case 0: return write_register(word, edge_value());
     case 1: return any_register_write();
-    case 2: return any_mailbox_write(image, (int)draw(4));
-    case 3: case 4: case 5: return any_frame();
+    case 2: return one_in(8) ? bad_mailbox_write(image) : any_mailbox_write(image, (int)draw(4));
+    case 3: case 4: case 5: return one_in(16) ? bad_frame() : any_frame();
     case 6: case 7: return start();
     case 8: case 9: return outcome((int)draw(5));
     case 10: return receive_error(one_in(2) ? 1 : 8);

@@ -22,8 +22,8 @@ void draw_bytes(uint8_t *bytes, size_t len);
 size_t likely_event(uint8_t *event, const uint8_t *image);
 
 /*
- * An event of any operation, whatever the state, though outcomes come oftener where the slot is filled; one in
- * ten is damaged. Answers its length.
+ * An event of any operation, whatever the state, though outcomes come oftener where the slot is filled. Some
+ * have a value, a DLC or a data byte that is just not allowed, and one in ten is damaged. Answers its length.
  */
 size_t varied_event(uint8_t *event, const uint8_t *image);
 
