@@ -132,7 +132,7 @@ static const struct clause {
     {"asleep, REC and TRS 1", ASLEEP, {SET(REC, 1), SET(TRS, 1)}, BAD},
     {"words 0 and 1 of a mailbox", NORMAL, {SET(MAILBOX(9, 0), 32), SET(MAILBOX(9, 1), 32)}, BAD},
     {"word 0 of two mailboxes", NORMAL, {SET(MAILBOX(8, 0), 1), SET(MAILBOX(9, 0), 1)}, BAD},
-    {"word 1 of two mailboxes", NORMAL, {SET(MAILBOX(8, 1), 9), SET(MAILBOX(9, 1), 9)}, BAD},
+    {"word 1 of two mailboxes", NORMAL, {SET(MAILBOX(8, 1), 32), SET(MAILBOX(9, 1), 32)}, BAD},
     {"a mailbox and a register", NORMAL, {SET(MAILBOX(9, 1), 256), SET(GIF, 256)}, BAD},
     /* what no clause ties together */
     {"RMP, RFP, MBRIF at transmit mailboxes", NORMAL, {SET(RMP, 1), SET(RFP, 1), SET(MBRIF, 1)}, GOOD},
@@ -258,13 +258,31 @@ static inline void ask_layout(judge *ask, int n)
     }
     ask_word(ask, "standard, all that it may have", MAILBOX(n, 0), 0x7FFC0000, GOOD);
     ask_word(ask, "extended, all bits", MAILBOX(n, 0), 0xFFFFFFFF, GOOD);
-    for (int bit = 4; bit < 32; bit++)
-        ask_word(ask, "word 1, each bit", MAILBOX(n, 1), 1u << bit, bit == 4 || bit >= 16);
+    for (int bit = 0; bit < 32; bit++)
+        ask_word(ask, "word 1, each bit", MAILBOX(n, 1), 1u << bit, bit <= 4 || bit >= 16);
     for (uint32_t dlc = 0; dlc < 16; dlc++)
-        ask_word(ask, "DLC", MAILBOX(n, 1), dlc, dlc <= 8);
-    ask_word(ask, "word 1, all that it may have", MAILBOX(n, 1), 0xFFFF0018, GOOD);
+        ask_word(ask, "DLC", MAILBOX(n, 1), dlc, GOOD);
+    ask_word(ask, "word 1, all that it may have", MAILBOX(n, 1), 0xFFFF001F, GOOD);
     ask_word(ask, "data bytes 0 to 3", MAILBOX(n, 2), 0xFFFFFFFF, GOOD);
     ask_word(ask, "data bytes 4 to 7", MAILBOX(n, 3), 0xFFFFFFFF, GOOD);
+}
+
+/* Word 1 has all that it may have in every mailbox; in one of them there is one of bits 15 to 5 as well. */
+static inline void ask_full_words_1(judge *ask)
+{
+    uint8_t image[BYTES];
+
+    put_fresh(image);
+    for (int n = 0; n < 32; n++)
+        put(image, MAILBOX(n, 1), 0xFFFF001F);
+    ask("DLC 15 in every mailbox", image, GOOD);
+    for (int n = 0; n < 32; n++) {
+        for (int bit = 5; bit < 16; bit++) {
+            put(image, MAILBOX(n, 1), 0xFFFF001F | 1u << bit);
+            ask("DLC 15 in every mailbox, and one of bits 15 to 5 in one", image, BAD);
+        }
+        put(image, MAILBOX(n, 1), 0xFFFF001F);
+    }
 }
 
 /* All of them. */
@@ -278,6 +296,7 @@ static inline void ask_about_good_images(judge *ask)
         ask_each_slot(ask, n);
     for (int n = 0; n < 32; n++)
         ask_layout(ask, n);
+    ask_full_words_1(ask);
 }
 
 #endif

@@ -64,7 +64,7 @@ static void woken_by_a_frame(void)
     accept(start());
     accept(recessive());
     refuse(data_frame(STANDARD(0x123), 1, 0xAA00), 4);
-    refuse(data_frame(STANDARD(0x123), 9, 0), 4);
+    refuse(data_frame(STANDARD(0x123), 16, 0), 4);
     accept(data_frame(STANDARD(0x123), 1, 0xAA));
     now({MODE, NORMAL_MODE}, {GIF, 0x40});
     answers(data_frame(STANDARD(0x123), 1, 0xAA), 0, 1);
@@ -73,7 +73,7 @@ static void woken_by_a_frame(void)
     begin("a remote frame with WUBA", ASLEEP);
     given({OPTIONS, 3});
     enabled(1, STANDARD(0x124) | RFH);
-    accept(remote_frame(STANDARD(0x124), 0));
+    accept(remote_frame(STANDARD(0x124), 15));
     now({MODE, NORMAL_MODE}, {GIF, 0x40}); /* and no reply */
     begin("WUBA in suspend", FRESH);
     given({MODE, SUSPEND}, {OPTIONS, 2});

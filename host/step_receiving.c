@@ -229,7 +229,7 @@ static void automatic_reply(void)
     given({MAILBOX(6, 1), 2}, {MAILBOX(6, 2), 0xCAFE});
     answers(remote_frame(STANDARD(0x203), 5), 6, 1); /* under the mask */
     now({TRS, BIT(6)});
-    answers(remote_frame(STANDARD(0x200), 0), 6, 1); /* TRS set already: named all the same */
+    answers(remote_frame(STANDARD(0x200), 15), 6, 1); /* TRS set already: named all the same */
     answers(remote_frame(STANDARD(0x208), 0), NOBODY, 1);
     answers(start(), 6, 0);
     now({SLOT, 6});
@@ -291,7 +291,7 @@ static void remote_frame_pending(void)
 static void stored_bytes(int dlc, uint32_t word_2, uint32_t word_3)
 {
     static const uint64_t data = 0x8877665544332211;
-    uint64_t carried = dlc == 8 ? data : data & ((UINT64_C(1) << 8 * dlc) - 1);
+    uint64_t carried = dlc >= 8 ? data : data & ((UINT64_C(1) << 8 * dlc) - 1);
 
     begin("data past DLC stay", NORMAL);
     receiving(20, STANDARD(0x155) | MASKED | RFH);
@@ -314,7 +314,28 @@ static void storing(void)
     stored_bytes(5, 0x44332211, 0xB8B7B655);
     stored_bytes(6, 0x44332211, 0xB8B76655);
     stored_bytes(7, 0x44332211, 0xB8776655);
-    stored_bytes(8, 0x44332211, 0x88776655);
+    for (int dlc = 8; dlc <= 15; dlc++)
+        stored_bytes(dlc, 0x44332211, 0x88776655);
+}
+
+/* Request c) of document 02: the number is kept as it came, and eight bytes come with it; none goes beyond. */
+static void dlc_above_8(int n, int dlc)
+{
+    begin("a DLC above 8", NORMAL);
+    for (int other = 0; other < 32; other++)
+        given({MAILBOX(other, 0), 0xFFFFFFFF}, {MAILBOX(other, 1), 0xFFFF0010}, {MAILBOX(other, 2), 0xFFFFFFFF},
+              {MAILBOX(other, 3), 0xFFFFFFFF});
+    receiving(n, STANDARD(0x718));
+    answers(data_frame(STANDARD(0x718), dlc, 0x8877665544332211), n, 1);
+    now_stored(n, STANDARD(0x718));
+    now({MAILBOX(n, 1), CONTROL(0, 0, dlc)}, {MAILBOX(n, 2), 0x44332211}, {MAILBOX(n, 3), 0x88776655});
+    answers(data_frame(STANDARD(0x718), 3, 0x00C3C2C1), n, 1); /* a shorter one over it */
+    now({MAILBOX(n, 1), CONTROL(0, 0, 3)}, {MAILBOX(n, 2), 0x44C3C2C1}, {RML, BIT(n)}, {GIF, 0x20});
+    answers(remote_frame(STANDARD(0x718), dlc), n, 1); /* which has no data */
+    now({MAILBOX(n, 1), CONTROL(0, 1, dlc)}, {RFP, BIT(n)}, {GIF, 0xA0});
+    answers(data_frame(STANDARD(0x718), dlc, 0), n, 1); /* eight bytes that are 0 */
+    now({MAILBOX(n, 1), CONTROL(0, 0, dlc)}, {MAILBOX(n, 2), 0}, {MAILBOX(n, 3), 0}, {RFP, 0});
+    refuse(data_frame(STANDARD(0x718), dlc | 16, 0x8877665544332211), 4);
 }
 
 /* A standard frame leaves no bit of an older extended identifier behind it. */
@@ -500,6 +521,9 @@ void step_receiving(void)
     reply_held_back();
     remote_frame_pending();
     storing();
+    for (int n = 0; n < 32; n++)
+        for (int dlc = 9; dlc <= 15; dlc++)
+            dlc_above_8(n, dlc);
     low_bits_are_zeroed();
     lost_flag();
     the_officers_fear();

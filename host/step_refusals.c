@@ -122,7 +122,7 @@ static void refusal_3(void)
     /* 4 applies as well */
     refuse(write_register(TSC, 1), 3);
     refuse(with_byte(write_register(MC, 0), 2, 1), 3);
-    refuse(write_mailbox(1, 1, 9), 3);
+    refuse(write_mailbox(1, 1, 32), 3);
     refuse(with_byte(write_mailbox(1, 1, 0), 9, 1), 3);
     refuse(options(4), 3);
     refuse(with_byte(options(0), 1, 1), 3);
@@ -145,15 +145,16 @@ static void refusal_3(void)
 static void refusal_4_wins(void)
 {
     begin("4 and 5", SENDING);
-    refuse(data_frame(STANDARD(1), 9, 0), 4);
+    refuse(data_frame(STANDARD(1), 16, 0), 4);
     refuse(with_byte(data_frame(STANDARD(1), 1, 0x55), 2, 1), 4);
+    refuse(with_byte(remote_frame(STANDARD(1), 15), 15, 1), 4);
     refuse(with_byte(start(), 1, 1), 4);
     refuse(receive_error(2), 4);
     refuse(with_byte(receive_error(1), 8, 1), 4);
     refuse(with_byte(write_register(MC, 0), 3, 1), 4);
     refuse(with_byte(write_register(MD, BIT(3)), 8, 1), 4);
     refuse(write_mailbox(3, 0, 1), 4);
-    refuse(write_mailbox(3, 1, 9), 4);
+    refuse(write_mailbox(3, 1, 32), 4);
     refuse(with_byte(write_mailbox(3, 2, 0), 12, 1), 4);
     begin("4 and 6", NORMAL);
     given({MC, BIT(6) | BIT(7)}, {MD, BIT(6) | BIT(31)});
@@ -220,11 +221,22 @@ static const struct usage {
     {NORMAL, FROSTSORREL_FRAME, 6, 0,                 "xx..xxxxxxxxxx.."},
     {NORMAL, FROSTSORREL_FRAME, 7, 0,                 "xx..xxxxxxxxxxx."},
     {NORMAL, FROSTSORREL_FRAME, 8, 0,                 "xx..xxxxxxxxxxxx"},
+    {NORMAL, FROSTSORREL_FRAME, 9, 0,                 "xx..xxxxxxxxxxxx"},
+    {NORMAL, FROSTSORREL_FRAME, 10, 0x80000000,       "xx..xxxxxxxxxxxx"},
+    {NORMAL, FROSTSORREL_FRAME, 11, 0,                "xx..xxxxxxxxxxxx"},
+    {NORMAL, FROSTSORREL_FRAME, 12, 0,                "xx..xxxxxxxxxxxx"},
+    {NORMAL, FROSTSORREL_FRAME, 13, 0,                "xx..xxxxxxxxxxxx"},
+    {NORMAL, FROSTSORREL_FRAME, 14, 0x80000000,       "xx..xxxxxxxxxxxx"},
+    {NORMAL, FROSTSORREL_FRAME, 15, 0,                "xx..xxxxxxxxxxxx"},
     {NORMAL, FROSTSORREL_FRAME, 0, 0x40000000,        "xx..xxxx........"}, /* remote */
     {NORMAL, FROSTSORREL_FRAME, 8, 0x40000000,        "xx..xxxx........"},
     {NORMAL, FROSTSORREL_FRAME, 8, 0xC0000000,        "xx..xxxx........"},
+    {NORMAL, FROSTSORREL_FRAME, 9, 0xC0000000,        "xx..xxxx........"},
+    {NORMAL, FROSTSORREL_FRAME, 15, 0x40000000,       "xx..xxxx........"},
     {ASLEEP, FROSTSORREL_FRAME, 2, 0,                 "xx..xxxxxx......"},
+    {ASLEEP, FROSTSORREL_FRAME, 15, 0,                "xx..xxxxxxxxxxxx"},
     {BUS_OFF, FROSTSORREL_FRAME, 2, 0,                "xx..xxxxxx......"},
+    {BUS_OFF, FROSTSORREL_FRAME, 15, 0x40000000,      "xx..xxxx........"},
     {NORMAL, FROSTSORREL_START, 0, 0,                 "x..............."},
     {FRESH, FROSTSORREL_START, 0, 0,                  "x..............."},
     {NORMAL, FROSTSORREL_RECEIVE_ERROR, 0, 1,         "x...xxxx........"},
@@ -266,6 +278,17 @@ static void unused_bytes_of_outcomes(void)
     }
 }
 
+/* The data bytes that are used take any content. */
+static void used_data_bytes(struct usage u)
+{
+    for (int i = 8; i < EVENT_BYTES && u.used[i] == 'x'; i++) {
+        struct event e = with_byte(plain_event(u.operation, u.target, 0, u.value), i, 0xFF);
+
+        begin("used data bytes", u.state);
+        accept(e); /* no mailbox is enabled: a frame changes nothing */
+    }
+}
+
 /* The events of the table are accepted as they stand: the refusals above are for the byte. */
 static void usages_are_accepted(void)
 {
@@ -282,8 +305,9 @@ static void usages_are_accepted(void)
 static void frames_not_allowed(void)
 {
     begin("frames not allowed", NORMAL);
-    for (int dlc = 9; dlc <= 255; dlc++) {
+    for (int dlc = 16; dlc <= 255; dlc++) {
         refuse(data_frame(STANDARD(1), dlc, 0), 4);
+        refuse(data_frame(STANDARD(1), dlc, 0x8877665544332211), 4);
         refuse(remote_frame(EXTENDED(1, 1), dlc), 4);
     }
     for (int bit = 0; bit < 18; bit++) {
@@ -296,6 +320,17 @@ static void frames_not_allowed(void)
     refuse(remote_frame(EXTENDED(1, 0) | BIT(29), 0), 4);
 }
 
+static void frames_allowed(void)
+{
+    begin("frames allowed", NORMAL);
+    for (int dlc = 0; dlc <= 15; dlc++) {
+        accept(data_frame(STANDARD(1), dlc, 0));
+        accept(data_frame(EXTENDED(1, 1), dlc, 0));
+        accept(remote_frame(STANDARD(1), dlc));
+        accept(remote_frame(EXTENDED(1, 1), dlc));
+    }
+}
+
 static void mailbox_words_not_allowed(void)
 {
     begin("mailbox words not allowed", FRESH);
@@ -303,10 +338,10 @@ static void mailbox_words_not_allowed(void)
         refuse(write_mailbox(9, 0, BIT(bit)), 4);
         refuse(write_mailbox(9, 0, MASKED | RFH | STANDARD(5) | BIT(bit)), 4);
     }
-    for (int bit = 5; bit < 16; bit++)
+    for (int bit = 5; bit < 16; bit++) {
         refuse(write_mailbox(9, 1, BIT(bit)), 4);
-    for (uint32_t dlc = 9; dlc < 16; dlc++)
-        refuse(write_mailbox(9, 1, CONTROL(7, 1, dlc)), 4);
+        refuse(write_mailbox(9, 1, CONTROL(7, 1, 15) | BIT(bit)), 4);
+    }
 }
 
 static void allowed_word(int k, uint32_t value)
@@ -325,7 +360,7 @@ static void mailbox_words_allowed(void)
         allowed_word(2, BIT(bit));
         allowed_word(3, BIT(bit));
     }
-    for (uint32_t dlc = 0; dlc <= 8; dlc++) {
+    for (uint32_t dlc = 0; dlc <= 15; dlc++) {
         allowed_word(1, CONTROL(0, 0, dlc));
         allowed_word(1, CONTROL(0xFFFF, 1, dlc));
     }
@@ -614,11 +649,14 @@ void step_refusals(void)
     refusal_4_wins();
     refusal_5_wins();
     refusal_7();
-    for (size_t i = 0; i < COUNT(usages); i++)
+    for (size_t i = 0; i < COUNT(usages); i++) {
         unused_bytes(usages[i]);
+        used_data_bytes(usages[i]);
+    }
     unused_bytes_of_outcomes();
     usages_are_accepted();
     frames_not_allowed();
+    frames_allowed();
     mailbox_words_not_allowed();
     mailbox_words_allowed();
     register_values();

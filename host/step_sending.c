@@ -121,9 +121,11 @@ static void start_by_key(void)
     smaller_key(STANDARD(0x7FF), REMOTE, EXTENDED(0x7FF, 0), DATA);
     smaller_key(EXTENDED(0x7FF, 0x3FFFF), DATA, EXTENDED(0x7FF, 0x3FFFF), REMOTE);
     /* GAME, RFH, the time stamp, the DLC and the data are no part of a key */
-    smaller_key(STANDARD(0x123) | MASKED | RFH, CONTROL(0xFFFF, 0, 8), STANDARD(0x124), CONTROL(0, 0, 0));
-    smaller_key(EXTENDED(0x123, 4) | MASKED | RFH, CONTROL(0xFFFF, 0, 8), EXTENDED(0x123, 5),
+    smaller_key(STANDARD(0x123) | MASKED | RFH, CONTROL(0xFFFF, 0, 15), STANDARD(0x124), CONTROL(0, 0, 0));
+    smaller_key(EXTENDED(0x123, 4) | MASKED | RFH, CONTROL(0xFFFF, 0, 15), EXTENDED(0x123, 5),
                 CONTROL(0, 0, 0));
+    smaller_key(STANDARD(0x123), CONTROL(0, 0, 15), STANDARD(0x123), REMOTE);
+    smaller_key(EXTENDED(0x123, 4), CONTROL(0, 0, 15), EXTENDED(0x123, 4), REMOTE);
 }
 
 /* Ties go to the lower number; a key of all ones is a key like any other (D46). */
@@ -150,7 +152,7 @@ static void equal_keys(void)
     now({SLOT, 20});
     begin("equal keys of mailboxes that differ in all else", NORMAL);
     given({OPTIONS, 1});
-    asking(14, STANDARD(0x2AA) | MASKED | RFH, CONTROL(0xFFFF, 0, 8));
+    asking(14, STANDARD(0x2AA) | MASKED | RFH, CONTROL(0xFFFF, 0, 15));
     asking(15, STANDARD(0x2AA), CONTROL(0, 0, 0));
     answers(start(), 14, 0);
     now({SLOT, 14});
@@ -209,6 +211,27 @@ static void sent(void)
     answers(outcome(SENT), 3, 0);
     now({SLOT, EMPTY_SLOT}, {TRS, BIT(8)}, {TA, BIT(3)}, {MAILBOX(3, 1), CONTROL(0x4711, 1, 6)},
         {TEC, 19});
+}
+
+/* Word 1 keeps its DLC, also above 8, and its RTR; only the time stamp is new. */
+static void sent_with_dlc(uint32_t rtr, uint32_t dlc)
+{
+    begin("sent with any DLC", NORMAL);
+    given({TSC, 0x4711}, {MC, BIT(3)});
+    accept(write_mailbox(3, 1, CONTROL(0xAAAA, rtr, dlc)));
+    now({MAILBOX(3, 1), CONTROL(0xAAAA, rtr, dlc)});
+    accept(write_mailbox(3, 3, 0x88776655));
+    now({MAILBOX(3, 3), 0x88776655});
+    accept(write_register(TRS, BIT(3)));
+    now({TRS, BIT(3)});
+    answers(start(), 3, 0);
+    now({SLOT, 3});
+    answers(outcome(ARBITRATION_LOST), 3, 0);
+    now({SLOT, EMPTY_SLOT});
+    answers(start(), 3, 0);
+    now({SLOT, 3});
+    answers(outcome(SENT), 3, 0);
+    now({SLOT, EMPTY_SLOT}, {TRS, 0}, {TA, BIT(3)}, {MAILBOX(3, 1), CONTROL(0x4711, rtr, dlc)});
 }
 
 /* Not sent and not cancelled: the request stays for the next start. */
@@ -562,6 +585,10 @@ void step_sending(void)
     key_of_the_eligible();
     every_mailbox_is_sent_once();
     sent();
+    for (uint32_t dlc = 0; dlc <= 15; dlc++) {
+        sent_with_dlc(0, dlc);
+        sent_with_dlc(1, dlc);
+    }
     not_sent();
     aborts();
     cancelled_and_asked_again();

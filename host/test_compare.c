@@ -131,6 +131,8 @@ static const struct by_hand {
     {"two words, back", {SET(MAILBOX(5, 2), 0xF4332211), SET(TSO, 1)}, {SET(MAILBOX(5, 2), 0x04030201)},
      {{22, 0, 0, 0, 0x11, 0x22, 0x33, 0xF4, 0x01, 0x02, 0x03, 0x04,
        155, 0, 0, 0, 1, 0, 0, 0, 0, 0, 0, 0}, 24}},
+    {"a DLC above 8, and 8", {SET(MAILBOX(5, 1), 15)}, {SET(MAILBOX(5, 1), 8)},
+     {{21, 0, 0, 0, 15, 0, 0, 0, 8, 0, 0, 0}, 12}},
     {"two neighbours, exchanged", {SET(MAILBOX(9, 2), 7), SET(MAILBOX(9, 3), 8)},
      {SET(MAILBOX(9, 2), 8), SET(MAILBOX(9, 3), 7)},
      {{38, 0, 0, 0, 7, 0, 0, 0, 8, 0, 0, 0, 39, 0, 0, 0, 8, 0, 0, 0, 7, 0, 0, 0}, 24}},
