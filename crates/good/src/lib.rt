@@ -75,9 +75,9 @@ fn good_block(b: Block) -> bool
     good_flags(b) & good_numbers(b) & good_slot(b)
 }
 
-// What shows whether words 0 and words 1 keep to the layout, for many mailboxes at once. Of a word 0, a sum that does not reach the
-// next power of two where the word is good, and `|` of such sums does not reach it either; of words 1, the words: `|` of them
-// has a forbidden bit where one of them has it.
+// What shows of many mailboxes at once whether their words 0 and 1 keep to the layout. For a word 0 stands a sum that does not reach
+// the next power of two where the word is good, and `|` of such sums does not reach it either. A word 1 stands for itself: `|` of
+// them has every bit that one of them has.
 pub struct Sums {
     pub identifiers: u64,
     pub controls: u32,

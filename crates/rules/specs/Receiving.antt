@@ -39,8 +39,8 @@ abbrev pub countTo : List ℕ → List ℕ → ℕ → ℕ
 countTo s e n = countBelow (compared s e) n
 
 -- The frame is stored in mailbox n, whose bytes become those of x. Word 0 keeps bits 30 and 29 and takes IDE and the identifier; word 1 is
--- made of TSC, RTR and the DLC, the number as it came; the data bytes that the frame carries are the first, all others stay. RMP tells of it, RML and bit 5 of GIF that
--- a frame was there already, MBRIF where MBIM asks for it, RFP and bit 7 of GIF that it is remote.
+-- made of TSC, RTR and the DLC, the number as it came; of the data bytes the first become those that the frame carries, all others stay. RMP
+-- tells of it, RML and bit 5 of GIF that a frame was there already, MBRIF where MBIM asks for it, RFP and bit 7 of GIF that it is remote.
 pub record Stored (s e : List ℕ) (n : ℕ) (was now : Words) (x : List ℕ) : Type 0 where
   pub word-0 : box x n 0 has-bits (λ i. cond (i is 30 || i is 29) (box s n 0 has i) (value e has i))
   pub word-1 : box x n 1 ≡ was TSC * 65536 + cond (rtr e) 16 0 + target e
