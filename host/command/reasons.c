@@ -71,15 +71,13 @@ static const char *bad_mailbox_word(uint8_t word, uint32_t value)
 {
     if (word == 0)
         return bad_identifier(value);
-    if (word == 1 && value & 0xFFE0)
-        return "bits 15 to 5 of word 1 must be 0";
-    return word == 1 && (value & FROSTSORREL_DLC_BITS) > 8 ? "the DLC must not be above 8" : 0;
+    return word == 1 && value & 0xFFE0 ? "bits 15 to 5 of word 1 must be 0" : 0;
 }
 
 static const char *bad_frame(uint8_t dlc, uint32_t value)
 {
-    if (dlc > 8)
-        return "the DLC must not be above 8";
+    if (dlc > FROSTSORREL_HIGHEST_DLC)
+        return "the DLC must not be above 15";
     return value & FROSTSORREL_RFH ? "bit 29 of a frame's value must be 0" : bad_identifier(value);
 }
 
@@ -105,7 +103,7 @@ static const char *bad_value(const uint8_t *event)
     }
 }
 
-/* Does this operation use its target, its word, its value? Byte 3 is used by none. */
+/* Does this operation use its target, its word, its value, this data byte? Byte 3 is used by none. */
 static int uses(const uint8_t *event, int byte)
 {
     int operation = event[0];
@@ -117,7 +115,7 @@ static int uses(const uint8_t *event, int byte)
     if (byte >= 4 && byte < 8)
         return operation <= FROSTSORREL_FRAME || operation == FROSTSORREL_RECEIVE_ERROR ||
                operation == FROSTSORREL_MODE || operation == FROSTSORREL_OPTIONS;
-    return byte >= 8 && operation == FROSTSORREL_FRAME && byte - 8 < event[1] &&
+    return byte >= 8 && operation == FROSTSORREL_FRAME && byte - 8 < data_bytes_of(event[1]) &&
            !(frostsorrel_event_value(event) & FROSTSORREL_FRAME_RTR);
 }
 

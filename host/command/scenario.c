@@ -290,8 +290,39 @@ static int take_bytes(struct reader *r, uint8_t *into, int most, const char *wha
 
 static int take_data(struct reader *r, uint8_t *data)
 {
-    return take_bytes(r, data, 8, "data bytes of two hexadecimal digits, eight at most",
+    return take_bytes(r, data, FROSTSORREL_MOST_DATA_BYTES, "data bytes of two hexadecimal digits, eight at most",
                       "there is a ninth data byte, and eight may stand here");
+}
+
+static uint8_t take_dlc(struct reader *r)
+{
+    return take_small(r, "a DLC, 0 to 15", FROSTSORREL_HIGHEST_DLC);
+}
+
+/* Beside data a DLC is their number; above 8 it stands for eight bytes (document 02, c). */
+static void compare_dlc(struct reader *r, uint8_t dlc, int count)
+{
+    int wanted = data_bytes_of(dlc);
+
+    if (r->broken || count == wanted)
+        return;
+    r->broken = 1;
+    fault(r->lines, "dlc %d, but %d data bytes%s", dlc, count, dlc > wanted ? "; a DLC above 8 has eight" : "");
+}
+
+/* `dlc`, and the data behind `:`; without `dlc` the DLC is how many there are. Answers it. */
+static uint8_t take_contents(struct reader *r, uint8_t *data, int *count)
+{
+    int is_given = takes(r, "dlc");
+    uint8_t dlc = is_given ? take_dlc(r) : 0;
+
+    *count = 0;
+    if (!takes(r, ":"))
+        return dlc;
+    *count = take_data(r, data);
+    if (is_given)
+        compare_dlc(r, dlc, *count);
+    return is_given ? dlc : (uint8_t)*count;
 }
 
 /* Their bits. At least one has to be there, and none twice. */
@@ -360,21 +391,16 @@ static void set_direction(struct reader *r, uint8_t mailbox, int receives)
 /* Word 0, word 1 with the DLC, and words 2 and 3 as far as the data go. */
 static void take_sender(struct reader *r, uint8_t mailbox, uint32_t flags)
 {
-    uint8_t data[8] = {0};
+    uint8_t data[FROSTSORREL_MOST_DATA_BYTES] = {0};
     uint32_t word_0 = flags | take_identifier(r);
-    int given = takes(r, "dlc"), dlc = given ? take_small(r, "a DLC, 0 to 8", 8) : 0, count = 0;
+    int count;
+    uint8_t dlc = take_contents(r, data, &count);
 
-    if (takes(r, ":")) {
-        count = take_data(r, data);
-        if (!r->broken && given && dlc != count)
-            fault(r->lines, "dlc %d, but %d data bytes", dlc, count);
-        dlc = count;
-    }
     if (mailbox == FROSTSORREL_MAILBOXES - 1)
         fault(r->lines, "mailbox 31 always receives");
     set_direction(r, mailbox, 0);
     frostsorrel_write_mailbox(new_event(r), mailbox, 0, word_0);
-    frostsorrel_write_mailbox(new_event(r), mailbox, 1, (uint32_t)dlc);
+    frostsorrel_write_mailbox(new_event(r), mailbox, 1, dlc);
     for (int at = 0; at < count; at += 4)
         frostsorrel_write_mailbox(new_event(r), mailbox, (uint8_t)(2 + at / 4), frostsorrel_word(data + at));
 }
@@ -460,19 +486,23 @@ static void read_bits(struct reader *r)
     add_write(r, r->form->number, take_mailboxes(r));
 }
 
+/* A mailbox may have its data from elsewhere. A frame brings its own, so a DLC that asks for some needs them. */
 static void read_frame(struct reader *r)
 {
-    uint8_t data[8];
+    uint8_t data[FROSTSORREL_MOST_DATA_BYTES] = {0};
     uint32_t identifier = take_identifier(r);
-    int count = takes(r, ":") ? take_data(r, data) : 0;
+    int count;
+    uint8_t dlc = take_contents(r, data, &count);
 
-    frostsorrel_data_frame(new_event(r), identifier, (uint8_t)count, data);
+    if (dlc > 0 && count == 0)
+        unexpected(r);
+    frostsorrel_data_frame(new_event(r), identifier, dlc, data);
 }
 
 static void read_remote(struct reader *r)
 {
     uint32_t identifier = take_identifier(r);
-    uint8_t dlc = takes(r, "dlc") ? take_small(r, "a DLC, 0 to 8", 8) : 0;
+    uint8_t dlc = takes(r, "dlc") ? take_dlc(r) : 0;
 
     frostsorrel_remote_frame(new_event(r), identifier, dlc);
 }

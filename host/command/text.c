@@ -18,7 +18,8 @@ static const char help[] =
 static void closest(uint8_t *into, const uint8_t *event)
 {
     uint32_t value = frostsorrel_event_value(event), identifier = frostsorrel_identifier(value);
-    uint8_t operation = event[0], target = event[1], dlc = target <= 8 ? target : 8;
+    uint8_t operation = event[0], target = event[1];
+    uint8_t dlc = target <= FROSTSORREL_HIGHEST_DLC ? target : FROSTSORREL_HIGHEST_DLC;
 
     identifier = value & FROSTSORREL_IDE ? frostsorrel_extended(identifier) : frostsorrel_standard(identifier);
     if (operation == FROSTSORREL_WRITE_REGISTER)
@@ -59,18 +60,19 @@ static void write_register(struct text *t, uint8_t number, uint32_t value)
         text_add(t, "write %s = 0x%lX", frostsorrel_register_name(number), wide(value));
 }
 
+/* The number of data bytes says the DLC of a data frame, but not one above eight. */
 static void write_frame(struct text *t, const uint8_t *event)
 {
     uint32_t value = frostsorrel_event_value(event);
+    int is_remote = (value & FROSTSORREL_FRAME_RTR) != 0, count = is_remote ? 0 : data_bytes_of(event[1]);
 
-    text_add(t, value & FROSTSORREL_FRAME_RTR ? "remote " : "frame ");
+    text_add(t, is_remote ? "remote " : "frame ");
     say_identifier(t, value);
-    if (value & FROSTSORREL_FRAME_RTR)
+    if (is_remote || event[1] > count)
         text_add(t, " dlc %d", event[1]);
-    else if (event[1])
+    if (count)
         text_add(t, " :");
-    if (!(value & FROSTSORREL_FRAME_RTR))
-        say_bytes(t, event + 8, event[1]);
+    say_bytes(t, event + 8, count);
 }
 
 static void write_known(struct text *t, const uint8_t *event)

@@ -71,6 +71,11 @@ void say_identifier(struct text *t, uint32_t word_0)
         text_add(t, "0x%03lX", wide(frostsorrel_identifier(word_0)));
 }
 
+int data_bytes_of(uint32_t dlc)
+{
+    return dlc < FROSTSORREL_MOST_DATA_BYTES ? (int)dlc : FROSTSORREL_MOST_DATA_BYTES;
+}
+
 void say_bytes(struct text *t, const uint8_t *bytes, int count)
 {
     for (int i = 0; i < count; i++)
@@ -121,9 +126,21 @@ static void say_word_0(struct text *t, uint32_t value)
     text_add(t, "%s%s", value & FROSTSORREL_GAME ? ", masked" : "", value & FROSTSORREL_RFH ? ", RFH" : "");
 }
 
+/* The DLC of a word 1. Above eight it is not the number of bytes, so that is said too; a remote frame has none. */
+static void say_dlc(struct text *t, uint32_t word_1)
+{
+    uint32_t dlc = word_1 & FROSTSORREL_DLC_BITS, count = frostsorrel_data_bytes(word_1);
+
+    text_add(t, "%lu", wide(dlc));
+    if (count && count < dlc)
+        text_add(t, " (%lu bytes)", wide(count));
+}
+
 static void say_word_1(struct text *t, uint32_t value)
 {
-    text_add(t, " DLC %lu%s", wide(value & FROSTSORREL_DLC_BITS), value & FROSTSORREL_RTR ? ", RTR" : "");
+    text_add(t, " DLC ");
+    say_dlc(t, value);
+    text_add(t, value & FROSTSORREL_RTR ? ", RTR" : "");
     if (value >> 16)
         text_add(t, ", time stamp %lu", wide(value >> 16));
 }
@@ -145,18 +162,15 @@ static void say_mailbox_write(struct text *t, const uint8_t *event)
 static void say_frame(struct text *t, const uint8_t *event)
 {
     uint32_t value = frostsorrel_event_value(event);
-    int remote = (value & FROSTSORREL_FRAME_RTR) != 0;
+    int is_remote = (value & FROSTSORREL_FRAME_RTR) != 0, count = is_remote ? 0 : data_bytes_of(event[1]);
 
-    text_add(t, remote ? "remote frame " : "frame ");
+    text_add(t, is_remote ? "remote frame " : "frame ");
     say_identifier(t, value);
-    if (remote || event[1] > 8)
+    if (is_remote || event[1] > count)
         text_add(t, " DLC %d", event[1]);
-    else if (event[1] == 0)
-        text_add(t, " no data");
-    else
-        text_add(t, " data");
-    if (!remote)
-        say_bytes(t, event + 8, event[1] < 8 ? event[1] : 8);
+    if (!is_remote)
+        text_add(t, count ? " data" : " no data");
+    say_bytes(t, event + 8, count);
 }
 
 static void say_mode(struct text *t, const uint8_t *event)
@@ -355,8 +369,12 @@ static void say_word_0_change(struct text *t, uint32_t old, uint32_t new)
 
 static void say_word_1_change(struct text *t, uint32_t old, uint32_t new)
 {
-    if ((old ^ new) & FROSTSORREL_DLC_BITS)
-        say_numbers(t, " DLC %lu -> %lu", old & FROSTSORREL_DLC_BITS, new & FROSTSORREL_DLC_BITS);
+    if ((old ^ new) & FROSTSORREL_DLC_BITS) {
+        text_add(t, " DLC ");
+        say_dlc(t, old);
+        text_add(t, " -> ");
+        say_dlc(t, new);
+    }
     say_flag(t, old, new, FROSTSORREL_RTR, "RTR");
     if ((old ^ new) >> 16)
         say_numbers(t, " time stamp %lu -> %lu", old >> 16, new >> 16);

@@ -5,7 +5,7 @@
 #include "books.h"
 #include "command.h"
 
-/* "frame 0x718 data 03 7F 11 22", "write RMP = 0x20: mailbox 5" */
+/* "frame 0x718 data 03 7F 11 22", "frame 0x718 DLC 15 data 11 22 33 44 55 66 77 88", "write RMP = 0x20: mailbox 5" */
 void say_event(struct text *t, const uint8_t *event);
 
 /*
@@ -23,7 +23,10 @@ void say_made(struct text *t, const struct made *m, const uint8_t *before, const
 /* The register words stand behind the four of each mailbox, counted from the first byte of an image. */
 enum { FIRST_REGISTER = 4 * FROSTSORREL_MAILBOXES };
 
-/* How a word changed, by an entry of frostsorrel_compare's list: "RML: +5", "mailbox 5 word 1: DLC 4 -> 3". */
+/*
+ * How a word changed, by an entry of frostsorrel_compare's list: "RML: +5", "mailbox 5 word 1: DLC 4 -> 3",
+ * "mailbox 5 word 1: DLC 3 -> 15 (8 bytes)".
+ */
 void say_change(struct text *t, const uint8_t *list, size_t entry);
 
 /* The same in numbers: "0x00000000 -> 0x00000020". */
@@ -37,6 +40,9 @@ void say_identifier(struct text *t, uint32_t word_0);
 
 /* "mailbox 5", "mailboxes 2, 5 to 7", "no mailbox": the bits of a flag word. */
 void say_mailboxes(struct text *t, uint32_t bits);
+
+/* How many data bytes go with this DLC, in a frame that is not a remote one: so many, and eight at most. */
+int data_bytes_of(uint32_t dlc);
 
 /* " 03 7F 11 22" */
 void say_bytes(struct text *t, const uint8_t *bytes, int count);
