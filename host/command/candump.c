@@ -2,6 +2,7 @@
 #include <string.h>
 
 #include "scenario.h"
+#include "words.h"
 
 static const char help[] =
     "frostsorrel candump LOG\n"
@@ -13,8 +14,14 @@ static const char help[] =
     "  (1700000000.123456) can0 718#037F1122      a data frame, identifier 0x718\n"
     "  (1700000000.223456) can0 11234567#01       an identifier of eight digits is an extended one\n"
     "  (1700000000.323456) can0 718#R4            a remote frame, DLC 4; R alone is DLC 0\n"
+    "  can0 718#1122334455667788_F                DLC 15: _9 to _F may follow eight data bytes, or R8\n"
     "\n"
-    "or as candump shows them: can0  718   [4]  03 7F 11 22\n"
+    "or as candump shows them, with the DLC in braces if it is called with -8:\n"
+    "\n"
+    "  can0  718   [4]  03 7F 11 22\n"
+    "  can0  718   {F}  11 22 33 44 55 66 77 88   DLC 15; without -8 it shows [8], the number of data bytes\n"
+    "\n"
+    "A DLC above 8 is there only if the interface keeps it: ip link set can0 type can cc-len8-dlc on\n"
     "\n"
     "Frames that the firmware itself has sent are in such a log as well; take those out that it sends in the scenario.\n"
     "A model has one bus, so frames of a second interface are refused; so is all that is no classic CAN frame (CAN FD,\n"
@@ -76,30 +83,53 @@ static const char *take_identifier(uint32_t *identifier, const char *at, size_t 
     return 0;
 }
 
-/* R, or R and the DLC. */
-static const char *take_remote(uint8_t *event, uint32_t identifier, const char *at, size_t length)
+static const char misplaced_raw[] = "_9 to _F, a DLC above 8, may follow eight data bytes, or R8, and nothing else";
+
+/*
+ * Behind _ a log has what can-utils calls the raw DLC, one above 8, which the data before it do not say. Takes it off
+ * their end, and answers it; 0 where there is no _, and -1 where something else stands behind that.
+ */
+static int take_raw(const char *data, size_t *length)
+{
+    const char *sign = memchr(data, '_', *length);
+    size_t whole = *length;
+
+    if (!sign)
+        return 0;
+    *length = (size_t)(sign - data);
+    return whole - *length == 2 && digit(sign[1]) > FROSTSORREL_MOST_DATA_BYTES ? digit(sign[1]) : -1;
+}
+
+/* R, or R and the DLC; the raw one behind R8. */
+static const char *take_remote(uint8_t *event, uint32_t identifier, const char *at, size_t length, int raw)
 {
     int dlc = length == 2 ? digit(at[1]) : 0;
 
-    if (length > 2 || dlc < 0 || dlc > 8)
+    if (length > 2 || dlc < 0 || dlc > FROSTSORREL_MOST_DATA_BYTES)
         return "behind R stands a DLC of 0 to 8, or nothing";
-    frostsorrel_remote_frame(event, identifier, (uint8_t)dlc);
+    if (raw && dlc != FROSTSORREL_MOST_DATA_BYTES)
+        return misplaced_raw;
+    frostsorrel_remote_frame(event, identifier, (uint8_t)(raw ? raw : dlc));
     return 0;
 }
 
-static const char *take_data(uint8_t *event, uint32_t identifier, const char *at, size_t length)
+/* The DLC is the number of bytes, but for a raw one behind eight. */
+static const char *take_data(uint8_t *event, uint32_t identifier, const char *at, size_t length, int raw)
 {
-    uint8_t data[8];
+    uint8_t data[FROSTSORREL_MOST_DATA_BYTES];
+    size_t count = length / 2;
 
     if (!all_digits(at, length))
         return "data are hexadecimal digits alone";
     if (length % 2)
         return "the data have an odd number of digits";
-    if (length > 16)
+    if (count > FROSTSORREL_MOST_DATA_BYTES)
         return "a frame has at most eight data bytes";
-    for (size_t i = 0; i < length; i += 2)
-        data[i / 2] = (uint8_t)(16 * digit(at[i]) + digit(at[i + 1]));
-    frostsorrel_data_frame(event, identifier, (uint8_t)(length / 2), data);
+    if (raw && count != FROSTSORREL_MOST_DATA_BYTES)
+        return misplaced_raw;
+    for (size_t i = 0; i < count; i++)
+        data[i] = (uint8_t)(16 * digit(at[2 * i]) + digit(at[2 * i + 1]));
+    frostsorrel_data_frame(event, identifier, (uint8_t)(raw ? (size_t)raw : count), data);
     return 0;
 }
 
@@ -111,40 +141,65 @@ static const char *take_logged(uint8_t *event, struct part frame)
     const char *sign = memchr(frame.at, '#', frame.length), *data = sign + 1, *wrong;
     size_t left = frame.length - (size_t)(data - frame.at);
     uint32_t identifier = 0;
+    int raw;
 
     if (left && *data == '#')
         return fd;
     wrong = take_identifier(&identifier, frame.at, (size_t)(sign - frame.at));
     if (wrong)
         return wrong;
+    raw = take_raw(data, &left);
+    if (raw < 0)
+        return misplaced_raw;
     if (left && (*data == 'R' || *data == 'r'))
-        return take_remote(event, identifier, data, left);
-    return take_data(event, identifier, data, left);
+        return take_remote(event, identifier, data, left, raw);
+    return take_data(event, identifier, data, left, raw);
 }
 
-/* ---- a frame of the screen: ID [DLC] and its bytes, or `remote request` */
+/* ---- a frame of the screen: ID [NUMBER OF BYTES] or ID {DLC}, and its bytes, or `remote request` */
+
+/* [0] to [8], or {0} to {F} of candump -8; -1 for anything else. */
+static int shown_dlc(struct part p)
+{
+    int dlc = p.length == 3 ? digit(p.at[1]) : -1;
+
+    if (dlc < 0 || (p.at[0] == '{' && p.at[2] == '}'))
+        return dlc;
+    return p.at[0] == '[' && p.at[2] == ']' && dlc <= FROSTSORREL_MOST_DATA_BYTES ? dlc : -1;
+}
+
+/* The bytes that go with this DLC, each apart; the first of them is taken from the line already. */
+static const char *take_shown_data(uint8_t *event, uint32_t identifier, int dlc, struct part p, struct rest *rest)
+{
+    char digits[2 * FROSTSORREL_MOST_DATA_BYTES];
+    int count = data_bytes_of((uint32_t)dlc);
+    size_t length = 0;
+
+    for (; p.length == 2 && length < sizeof digits; p = next_part(rest), length += 2)
+        memcpy(digits + length, p.at, 2);
+    if (p.length || (int)length != 2 * count)
+        return dlc > count ? "with a DLC above 8 stand eight data bytes, and nothing else"
+                           : "these are not as many data bytes as the brackets say, or not data bytes alone";
+    return take_data(event, identifier, digits, length, dlc > count ? dlc : 0);
+}
 
 static const char *take_shown(uint8_t *event, struct part frame, struct rest *rest)
 {
-    struct part dlc = next_part(rest), p = next_part(rest);
-    char digits[16];
-    size_t length = 0;
+    struct part shown = next_part(rest), p = next_part(rest);
+    int dlc = shown_dlc(shown);
     uint32_t identifier = 0;
     const char *wrong = take_identifier(&identifier, frame.at, frame.length);
 
     if (wrong)
         return wrong;
-    if (dlc.length == 4)
+    if (shown.length == 4 && *shown.at == '[')
         return fd;
-    if (dlc.length != 3 || digit(dlc.at[1]) < 0 || digit(dlc.at[1]) > 8 || dlc.at[2] != ']')
-        return "between the identifier and the data stands [0] to [8]";
-    if (is(p, "remote") && is(next_part(rest), "request"))
-        return take_remote(event, identifier, dlc.at, 2);
-    for (; p.length == 2 && length < sizeof digits; p = next_part(rest), length += 2)
-        memcpy(digits + length, p.at, 2);
-    if (p.length || (int)length != 2 * digit(dlc.at[1]))
-        return "these are not as many data bytes as the brackets say, or not data bytes alone";
-    return take_data(event, identifier, digits, length);
+    if (dlc < 0)
+        return "between the identifier and the data stands [0] to [8], or {0} to {F}";
+    if (!is(p, "remote") || !is(next_part(rest), "request"))
+        return take_shown_data(event, identifier, dlc, p, rest);
+    frostsorrel_remote_frame(event, identifier, (uint8_t)dlc);
+    return 0;
 }
 
 /* ---- lines: (TIME) INTERFACE FRAME R|T */
@@ -165,7 +220,7 @@ static int shows_dlc(struct rest rest)
 {
     struct part next = next_part(&rest);
 
-    return next.length && *next.at == '[';
+    return next.length && (*next.at == '[' || *next.at == '{');
 }
 
 static void take_front(struct log *log, struct rest *rest)
