@@ -4,7 +4,7 @@
  * Each trace is told as it is, with some of its bytes changed, and with events repeated; random bytes are told as well.
  * The books must balance and agree with the image, every frame that came to nobody, every refusal, every step and every
  * word that changed must be told, each refusal must have a reason that fits it, and so must each frame that no mailbox
- * took, and each missing acknowledgement that TEC does not count.
+ * took, and each missing acknowledgement that TEC does not count. A frame is told with the bytes that it carries.
  * host/test_sanitized runs it under the compiler's sanitizers, on the machine's own processor.
  */
 #define _XOPEN_SOURCE 700 /* fork, waitpid and pipe beside C99 */
@@ -114,6 +114,30 @@ static void check_idle(const struct run *r, int step, const char *name)
     check(unchanged || !t.length, "%s, step %d: %s", name, step, t.length ? t.at : "");
     check(!unchanged || !always || t.length, "%s, step %d: nothing says why nothing changes", name, step);
     text_free(&t);
+}
+
+static int above; /* how many frames of a DLC above 8 were told */
+
+/*
+ * The bytes of a data frame are told, as many as its DLC says and eight at most, and the DLC where they do not say it.
+ * Of a remote frame the DLC is told, and no byte.
+ */
+static void check_frame(const uint8_t *event, const char *name)
+{
+    int remote = event[7] >> 6 & 1, dlc = event[1], bytes = remote ? 0 : dlc < 8 ? dlc : 8;
+    struct text words = {0}, number = {0};
+    const char *data;
+
+    if (event[0] != FROSTSORREL_FRAME)
+        return;
+    say_event(&words, event);
+    text_add(&number, " DLC %d", dlc);
+    data = strstr(words.at, " data ");
+    check(data ? strlen(data) == strlen(" data") + 3 * (size_t)bytes : !bytes, "%s: %d bytes: %s", name, bytes, words.at);
+    check((strstr(words.at, number.at) != 0) == (remote || dlc > 8), "%s: DLC %d: %s", name, dlc, words.at);
+    above += dlc > 8;
+    text_free(&words);
+    text_free(&number);
 }
 
 static int kept, kept_by_rec; /* how often a drawn unit kept its TEC, and how often only REC had made it passive */
@@ -322,6 +346,7 @@ static void check_told(const struct run *r, const char *name)
 
     for (int k = 1; k <= r->steps; k++) {
         check_idle(r, k, name);
+        check_frame(r->step[k].event, name);
         if (refusal_of(r, k) == FROSTSORREL_ACCEPTED)
             check_kept_tec(r->image[k - 1], r->step[k].event, r->step[k].answer, r->image[k], name);
     }
@@ -418,6 +443,7 @@ static void check_any_image(void)
     memcpy(before, image, sizeof before);
     if (varied_event(event, image) != FROSTSORREL_EVENT_BYTES)
         return;
+    check_frame(event, "any image");
     answer = frostsorrel_step(image, sizeof image, event, FROSTSORREL_EVENT_BYTES);
     refusal = frostsorrel_answer_refusal(answer);
     if (refusal != FROSTSORREL_ACCEPTED)
@@ -438,5 +464,6 @@ int main(int argc, char **argv)
         check_any_image();
     check(kept > kept_by_rec && kept_by_rec > 0, "%d drawn units kept their TEC, %d of them by REC alone", kept,
           kept_by_rec);
+    check(above > 0, "no frame of a DLC above 8 was drawn");
     return report("host report");
 }

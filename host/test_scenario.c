@@ -135,6 +135,13 @@ static void met(void)
         check(strstr(written.at, line.at) != 0, "no drawn trace has a line %s", forms[i]);
         text_free(&line);
     }
+    for (int dlc = 9; dlc <= 15; dlc++) { /* of a data frame: in what text writes, no other line has both */
+        struct text words = {0};
+
+        text_add(&words, " dlc %d :", dlc);
+        check(strstr(written.at, words.at) != 0, "no drawn trace has a data frame of DLC %d", dlc);
+        text_free(&words);
+    }
     check(strstr(written.at, " x ") != 0, "no drawn trace has equal events in a row");
 }
 
@@ -155,21 +162,23 @@ static void drawn_traces(unsigned long rounds)
 static const char scenario[] =
     "mailboxes:\nmailbox 2 sends 0x710 dlc 3 : 02 11 11\nmailbox 5 receives 0x718 # answers\n"
     "mailbox 7 replies ext 0x1FFFFFFF : 0102030405060708\nmailbox 9 word 0 = 1 << 31 | 0x20 x 2\n"
+    "mailbox 8 sends 0x711 dlc 15 : 0102030405060708\n"
     "registers:\nwrite bcr2 = 0x25\nenable 2 5\noptions 3\nwrite 32 = 4294967295\n"
     "events:\nmode normal\nsend 2 7\nstart\noutcome sent\nstart\noutcome unacknowledged\n"
-    "frame 0x718 : 03 7F 11 22\nframe ext 0x1 x 3\n"
-    "remote 0x100 dlc 2\nrelease 5\nabort 2\ntick x 700\nrecessive x 128\nreceive error 8\nreset\n"
+    "frame 0x718 : 03 7F 11 22\nframe ext 0x1 x 3\nframe 0x718 dlc 15 : 11 22 33 44 55 66 77 88\n"
+    "remote 0x100 dlc 2\nremote 0x100 dlc 15\nrelease 5\nabort 2\ntick x 700\nrecessive x 128\nreceive error 8\nreset\n"
     "raw 0b 00 00 00 00 00 00 00 00 00 00 00 00 00 00 00\n";
 
 static const char log_lines[] =
     "(1700000000.123456) can0 718#037F1122\n(1700000000.2) can0 11234567#01 R\n(1.3) can0 718#R4\n"
     "(1.3) can0 718#R\n\n(1.4) can0 7FF#1122334455667788 T\n  can0  718   [4]  03 7F 11 22\n"
-    " (012.3)  can0  11234567   [3]  remote request\n";
+    " (012.3)  can0  11234567   [3]  remote request\n(1.5) can0 718#1122334455667788_F\n(1.6) can0 718#R8_9\n"
+    "  can0  718   {F}  11 22 33 44 55 66 77 88\n  can0  718   {9}  remote request\n";
 
 /* A character that means something, or any. */
 static char draw_character(void)
 {
-    static const char likely[] = " \n\t\r#:=|<<xX0123456789abcdefABCDEF()[]RT";
+    static const char likely[] = " \n\t\r#:=|<<xX0123456789abcdefABCDEF()[]{}_RT";
 
     return one_in(6) ? (char)draw(256) : likely[draw(sizeof likely - 1)];
 }
