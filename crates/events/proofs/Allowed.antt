@@ -11,8 +11,8 @@ use Rattle.bits.specs.Bit.{bit}
 use Rattle.bits.proofs.Sets.{and-l, and-r}
 use Rattle.bits.proofs.Tests.{all}
 use Rattle.words.proofs.Bytes.{Bytes, word-lt}
-use Rattle.mailboxes.specs.Mailbox.{highestDlc, wordLayout}
-use Rattle.mailboxes.specs.Filing.{dataBytes}
+use Rattle.mailboxes.specs.Mailbox.{wordLayout}
+use Rattle.mailboxes.specs.Filing.{highestDlc, dataBytes}
 use Rattle.events.specs.declared.Frame.{Frame}
 use Rattle.events.specs.declared.Event.{Event}
 use Rattle.events.specs.declared.Event.the-variants.{Refused, Register, Mailbox, Heard, Start, Outcome, ReceiveError, Recessive, Tick, Mode, Options, Reset}

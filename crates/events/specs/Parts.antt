@@ -7,8 +7,7 @@ use lib.ListN.{getD}
 use Rattle.bits.specs.Bit.{bit}
 use Rattle.bits.specs.Tests.{every}
 use Rattle.words.specs.Word.{wordAt}
-use Rattle.mailboxes.specs.Mailbox.{highestDlc}
-use Rattle.mailboxes.specs.Filing.{dataBytes}
+use Rattle.mailboxes.specs.Filing.{highestDlc, dataBytes}
 use Rattle.events.specs.declared.Frame.{Frame}
 
 -- The events, 16 bytes each: one each for operation, target and word, an unused one, four for the value, eight of data.
@@ -48,7 +47,7 @@ unfoldable pub frameOf : List ℕ → Frame
 frameOf e =
     record { ide = bit (value e) 31; rtr = bit (value e) 30; id = record { 0 = value e % 2 ^ 29 }; dlc = target e; bytes = payload e }
 
--- The data bytes that a frame event uses.
+-- How many data bytes a frame event uses: those that the frame brings.
 abbrev pub frameBytes : List ℕ → ℕ
 frameBytes e = dataBytes (bit (value e) 30) (target e)
 

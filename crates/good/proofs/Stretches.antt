@@ -1,7 +1,8 @@
--- The sums by which many layouts are judged at once.
+-- How many layouts are judged at once: what is gathered of each mailbox, of two, and of stretches of them.
 use Prim.Native.Nat.{ℕ, _+_, _-_, _*_, _/_, _%_, _^_, _<_, _≤_}
 use mathlib.Core.Path.{_≡_, refl, sym, _∙_, ap, ap₂}
 use mathlib.Core.Bool.{Bool, true, false, _&&_, _||_, false≢true}
+use mathlib.Core.Logic.{_≢_}
 use native.Mathlib.Nat.{lt-of-le-of-lt}
 use native.Mathlib.Omega.{arith}
 use lib.Dec.{eqb, ltb}
@@ -13,7 +14,7 @@ use Rattle.bits.proofs.Below.{each-below}
 use Rattle.bits.proofs.Tests.{same-test}
 use Rattle.bits.proofs.Sets.{both, and-l, and-r, within-le, or-within-l, or-within-r}
 use Rattle.mailboxes.specs.Mailbox.{wordLayout}
-use Rattle.good.specs.Sums.{Stretch}
+use Rattle.good.specs.Gathered.{Stretch}
 
 -- ---- one word 0
 
@@ -47,7 +48,7 @@ or-ltb k a b =
     (lt-ltb _ _ (lt-of-le-of-lt (within-le (or-within-r a b)) (ltb-true _ _ h))))
     (λ h. lt-ltb _ _ (or-lt k a b (ltb-true _ _ (and-l (ltb a (2 ^ k)) (ltb b (2 ^ k)) h)) (ltb-true _ _ (and-r (ltb a (2 ^ k)) (ltb b (2 ^ k)) h))))
 
--- `|` of two words 1 has a forbidden bit exactly where one of them has it
+-- `|` of two words 1 has a bit that must be zero exactly where one of them has it
 pub or-control : (a b : ℕ) → wordLayout 1 (bitOr a b) ≡ (wordLayout 1 a && wordLayout 1 b)
 or-control a b =
     let x = a / 2 ^ 5 % 2 ^ 11 in
@@ -63,6 +64,14 @@ or-control a b =
     let p : x ≡ 0 = eqb-true _ _ (and-l (wordLayout 1 a) (wordLayout 1 b) h) in
     let q : y ≡ 0 = eqb-true _ _ (and-r (wordLayout 1 a) (wordLayout 1 b) h) in
     eq-eqb _ _ (fields ∙ ap₂ bitOr p q))
+
+-- such a bit, put above a power of two
+pub control-above : (w : ℕ) → ltb (w / 32 % 2048 * 4294967296) 4294967296 ≡ wordLayout 1 w
+control-above w = at (eqb (w / 32 % 2048) 0) refl
+  where
+    at : (t : Bool) → eqb (w / 32 % 2048) 0 ≡ t → ltb (w / 32 % 2048 * 4294967296) 4294967296 ≡ t
+    at true h = let z : w / 32 % 2048 ≡ 0 = eqb-true _ _ h in let l : w / 32 % 2048 * 4294967296 < 4294967296 = omega arith in lt-ltb _ _ l
+    at false h = let z : w / 32 % 2048 ≢ 0 = eqb-false _ _ h in let l : 4294967296 ≤ w / 32 % 2048 * 4294967296 = omega arith in le-ltb _ _ l
 
 pub interchange : (a b c d : Bool) → ((a && b) && (c && d)) ≡ ((a && c) && (b && d))
 interchange true true c d = refl

@@ -1,4 +1,5 @@
--- What makes an image good: one named clause for each thing that document 01 asks under "The image", in its order.
+-- What makes an image good: one named clause for each thing that document 01 asks under "The image", in its order, but for the DLC, of
+-- which by document 02, c), nothing is asked.
 use Prim.Native.Nat.{ℕ, _+_, _*_}
 use mathlib.Core.Bool.{Bool, not, _&&_, _||_}
 use mathlib.Core.List.{List, [], _∷_}

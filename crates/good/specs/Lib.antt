@@ -1,3 +1,3 @@
 -- What makes an image good.
 pub mod Good
-pub mod Sums
+pub mod Gathered

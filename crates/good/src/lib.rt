@@ -7,7 +7,7 @@ ghost use lib.ListN.{length};
 ghost use Rattle.registers.specs.Block.{imageBytes};
 ghost use Rattle.mailboxes.specs.Mailbox.{layout, wordLayout};
 ghost use Rattle.good.specs.Good.{goodFlags, goodNumbers, goodSlot, goodBlock, goodLayouts, goodSpare, goodImage};
-ghost use Rattle.good.specs.Sums.{clean, Stretch};
+ghost use Rattle.good.specs.Gathered.{clean, Stretch};
 use registers::Block;
 
 const TOP: u32 = 0x8000_0000;
@@ -75,10 +75,9 @@ fn good_block(b: Block) -> bool
     good_flags(b) & good_numbers(b) & good_slot(b)
 }
 
-// What shows of many mailboxes at once whether their words 0 and 1 keep to the layout. For a word 0 stands a sum that does not reach
-// the next power of two where the word is good, and `|` of such sums does not reach it either. A word 1 stands for itself: `|` of
-// them has every bit that one of them has.
-pub struct Sums {
+// What is gathered of words 0 and 1 to judge many mailboxes at once. For a word 0 stands a sum that reaches 2^32 where the word breaks
+// the layout, and `|` of sums reaches it where one of them does. A word 1 stands for itself: `|` of them has every bit that one has.
+pub struct Gathered {
     pub identifiers: u64,
     pub controls: u32,
 }
@@ -90,46 +89,47 @@ fn identifier_sum(w: u32) -> u64
     (w % 262144 + (1 - w / 2147483648) * 2147483648) as u64 + 2147483647
 }
 
-fn sums_of(s: &[u8], n: usize) -> Sums
+fn gather(s: &[u8], n: usize) -> Gathered
     requires { ⌜ (length (now s) ≡ imageBytes) × (n < 32) ⌝ }
     ensures { λ r. ⌜ clean r ≡ layout (now (s .entry)) n ⌝ }
 {
-    Sums {
+    Gathered {
         identifiers: identifier_sum(mailboxes::word(s, n, 0)),
         controls: mailboxes::word(s, n, 1),
     }
 }
 
-fn joined(x: Sums, y: Sums) -> Sums
+fn joined(x: Gathered, y: Gathered) -> Gathered
     ensures { λ r. ⌜ clean r ≡ (clean x && clean y) ⌝ }
 {
-    Sums {
+    Gathered {
         identifiers: x.identifiers | y.identifiers,
         controls: x.controls | y.controls,
     }
 }
 
-fn is_clean(x: Sums) -> bool
+// Bits 15 to 5 of words 1 are put above 2^32, so that one branch judges both: a second one costs more than it spares.
+fn is_clean(x: Gathered) -> bool
     ensures { λ r. ⌜ r ≡ clean x ⌝ }
 {
-    (x.identifiers < 4294967296) & mailboxes::control_layout(x.controls)
+    x.identifiers | (x.controls / 32 % 2048) as u64 * 4294967296 < 4294967296
 }
 
-fn two(s: &[u8], n: usize) -> Sums
+fn two(s: &[u8], n: usize) -> Gathered
     requires { ⌜ (length (now s) ≡ imageBytes) × (n + 2 ≤ 32) ⌝ }
     ensures { λ r. ⌜ Stretch (layout (now (s .entry))) n (n + 2) (clean r) ⌝ }
 {
-    joined(sums_of(s, n), sums_of(s, n + 1))
+    joined(gather(s, n), gather(s, n + 1))
 }
 
-fn four(s: &[u8], n: usize) -> Sums
+fn four(s: &[u8], n: usize) -> Gathered
     requires { ⌜ (length (now s) ≡ imageBytes) × (n + 4 ≤ 32) ⌝ }
     ensures { λ r. ⌜ Stretch (layout (now (s .entry))) n (n + 4) (clean r) ⌝ }
 {
     joined(two(s, n), two(s, n + 2))
 }
 
-fn eight(s: &[u8], n: usize) -> Sums
+fn eight(s: &[u8], n: usize) -> Gathered
     requires { ⌜ (length (now s) ≡ imageBytes) × (n + 8 ≤ 32) ⌝ }
     ensures { λ r. ⌜ Stretch (layout (now (s .entry))) n (n + 8) (clean r) ⌝ }
 {

@@ -14,8 +14,8 @@ use Rattle.words.specs.Word.{wordAt, putWord}
 use Rattle.words.proofs.Bytes.{Bytes, bytes-put}
 use Rattle.words.proofs.Laws.{length-put, byte-other, word-same, word-other}
 use Rattle.mailboxes.specs.declared.Identifier.{Identifier}
-use Rattle.mailboxes.specs.Mailbox.{mailbox, ide as ideOf, maskable, rfh, identifier, stamp, rtr as rtrOf, dlc as dlcOf, highestDlc, wordLayout, layout}
-use Rattle.mailboxes.specs.Filing.{mostDataBytes, dataBytes, filedIdentifier, filedControl, dataOf, spliced, filed, stampedControl, stamped}
+use Rattle.mailboxes.specs.Mailbox.{mailbox, ide as ideOf, maskable, rfh, identifier, stamp, rtr as rtrOf, dlc as dlcOf, wordLayout, layout}
+use Rattle.mailboxes.specs.Filing.{highestDlc, mostDataBytes, dataBytes, filedIdentifier, filedControl, dataOf, spliced, filed, stampedControl, stamped}
 use Rattle.mailboxes.proofs.Laws.{word-of}
 use Rattle.mailboxes.proofs.Spliced.{byteOf, from, byte-low, spliced-new, spliced-old, data-byte, put-data-byte, byte-put, word-byte}
 

@@ -7,7 +7,10 @@ use Rattle.bits.specs.Bit.{flag}
 use Rattle.words.specs.Word.{wordAt, putWord}
 use Rattle.mailboxes.specs.declared.Identifier.{Identifier}
 
--- Document 02, c): the most data bytes that a frame carries.
+-- Document 02, c), two rules: the highest DLC of a frame, and the most data bytes that one carries.
+abbrev pub highestDlc : ℕ
+highestDlc = 15
+
 abbrev pub mostDataBytes : ℕ
 mostDataBytes = 8
 

@@ -46,10 +46,6 @@ rtr w = bit w 4
 abbrev pub dlc : ℕ → ℕ
 dlc w = w % 2 ^ 4
 
--- Document 02, c): the highest DLC of a frame.
-abbrev pub highestDlc : ℕ
-highestDlc = 15
-
 -- The image: what word k of a mailbox may be. A standard identifier leaves bits 17 to 0 of word 0 zero; bits 15 to 5 of
 -- word 1 are zero, its DLC may be any; data words are free.
 abbrev pub wordLayout : ℕ → ℕ → Bool

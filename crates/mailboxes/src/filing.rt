@@ -2,11 +2,13 @@
 ghost use mathlib.Core.Path.{_≡_};
 ghost use Prim.Native.Nat.{_+_, _*_, _^_, _<_, _≤_};
 ghost use lib.ListN.{length};
-ghost use Rattle.mailboxes.specs.Mailbox.{mailbox, withMailbox, highestDlc};
-ghost use Rattle.mailboxes.specs.Filing.{mostDataBytes, dataBytes, filedIdentifier, filedControl, dataOf, spliced as splicedOf, withData, filed, stamped};
+ghost use Rattle.mailboxes.specs.Mailbox.{mailbox, withMailbox};
+ghost use Rattle.mailboxes.specs.Filing.{highestDlc, mostDataBytes, dataBytes, filedIdentifier, filedControl, dataOf, spliced as splicedOf, withData, filed, stamped};
 use crate::Identifier;
 
-// The most data bytes that a frame carries, whatever its DLC.
+// The highest DLC of a frame, and the most data bytes that one carries.
+pub const HIGHEST_DLC: u32 = 15;
+
 const MOST_DATA_BYTES: u32 = 8;
 
 // How many data bytes a frame brings.
@@ -34,7 +36,7 @@ fn filed_control(tsc: u32, rtr: bool, dlc: u32) -> u32
     tsc * 65536 + bits::flag(rtr, 4) + dlc
 }
 
-// The first n bytes of new, and above them the bytes of old.
+// The first n bytes of new, and above them the bytes of old. All eight are 64 bits, too many for a shift.
 fn spliced(old: u64, new: u64, n: u32) -> u64
     requires { ⌜ n ≤ mostDataBytes ⌝ }
     ensures { λ r. ⌜ r ≡ splicedOf old new n ⌝ }

@@ -2,6 +2,7 @@
 mod filing;
 mod keys;
 
+pub use filing::HIGHEST_DLC;
 pub use filing::data_bytes;
 pub use filing::put_frame;
 pub use filing::put_stamp;
@@ -21,9 +22,6 @@ pub struct Key(pub u32);
 
 pub const MAILBOX_BYTES: usize = 16;
 
-// The highest DLC of a frame.
-pub const HIGHEST_DLC: u32 = 15;
-
 // Word k of mailbox n.
 pub fn word(s: &[u8], n: usize, k: usize) -> u32
     requires { ⌜ (16 * n + 16 ≤ length (now s)) × (n < 32) × (k < 4) ⌝ }
@@ -40,7 +38,7 @@ fn identifier_layout(w: u32) -> bool
 }
 
 // Does word 1 keep to the layout?
-pub fn control_layout(w: u32) -> bool
+fn control_layout(w: u32) -> bool
     ensures { λ r. ⌜ r ≡ wordLayout 1 w ⌝ }
 {
     w / 32 % 2048 == 0

@@ -6,7 +6,7 @@ use lib.ListN.{length}
 use Rattle.registers.specs.Block.{imageBytes, blockOf, putBlock}
 use Rattle.registers.specs.Modes.{risen}
 use Rattle.registers.specs.Frames.{listened}
-use Rattle.mailboxes.specs.Mailbox.{highestDlc}
+use Rattle.mailboxes.specs.Filing.{highestDlc}
 use Rattle.events.specs.declared.Frame.{Frame}
 use Rattle.events.specs.declared.Event.{Event}
 use Rattle.events.specs.declared.Event.the-variants.{Refused, Register, Mailbox, Heard, Start, Outcome, ReceiveError, Recessive, Tick, Mode, Options, Reset}

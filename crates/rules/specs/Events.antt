@@ -35,8 +35,8 @@ highestDlc = 15
 abbrev pub mostDataBytes : ℕ
 mostDataBytes = 8
 
--- The data bytes that a frame carries, the first of its event: as many as its DLC (the target) says, but eight where it says more; a remote
--- frame carries none.
+-- How many data bytes a frame carries, the first of its event: as many as its DLC (the target) says, but eight where it says more; a remote
+-- frame none.
 abbrev pub carried : List ℕ → ℕ
 carried e = cond (rtr e) 0 (atMost mostDataBytes (target e))
 

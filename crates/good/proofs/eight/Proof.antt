@@ -1,7 +1,7 @@
 use Prim.Native.Nat.{_+_}
 use native.Mathlib.Omega.{arith}
 use Rattle.mailboxes.specs.Mailbox.{layout}
-use Rattle.good.specs.Sums.{clean}
+use Rattle.good.specs.Gathered.{clean}
 use Rattle.good.proofs.Stretches.{joins}
 use borrow.Author.Needs.{needs}
 use Rattle.good.proofs.eight.Statement.{statement}

@@ -7,7 +7,7 @@ use borrow.Author.Needs.{needs}
 use Rattle.bits.proofs.Below.{all-below}
 use Rattle.mailboxes.specs.Mailbox.{layout}
 use Rattle.good.specs.Good.{goodLayouts}
-use Rattle.good.specs.Sums.{clean}
+use Rattle.good.specs.Gathered.{clean}
 use Rattle.good.proofs.Stretches.{grown, spoilt}
 use Rattle.good.proofs.good_layouts.Statement.{statement}
 use Rattle.good.proofs.good_layouts.Tie as tie

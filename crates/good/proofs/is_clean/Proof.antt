@@ -1,15 +1,23 @@
-use mathlib.Core.Path.{ap}
+use Prim.Native.Nat.{_*_, _/_, _%_}
+use mathlib.Core.Path.{_∙_, ap}
 use mathlib.Core.Bool.{Bool, _&&_}
 use lib.Dec.{ltb}
+use Rattle.good.proofs.Stretches.{or-ltb, control-above}
 use borrow.Author.Needs.{needs}
 use Rattle.good.proofs.is_clean.Statement.{statement}
 use Rattle.good.proofs.is_clean.Tie as tie
 
-control-layout-requires : tie.Need-control-layout-requires
-control-layout-requires c κs = search needs
+cast-result : tie.Need-cast-result
+cast-result c = search needs
+
+mul-result : tie.Need-mul-result
+mul-result c = search needs
 
 returns : tie.Need-returns
-returns c = ap (λ (t : Bool). ltb (c .before .before .args .x .identifiers) 4294967296 && t) (c .control-layout .ensures)
+returns c =
+    let x = c .before .before .args .x in
+    or-ltb 32 (x .identifiers) (x .controls / 32 % 2048 * 4294967296)
+    ∙ ap (λ (t : Bool). ltb (x .identifiers) 4294967296 && t) (control-above (x .controls))
 
 pub is-clean-spec : {M : Type 1} → statement M
-is-clean-spec = tie.close (tie.spec control-layout-requires returns)
+is-clean-spec = tie.close (tie.spec cast-result mul-result returns)

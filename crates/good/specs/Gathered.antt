@@ -1,13 +1,13 @@
--- The image, the layout of the mailboxes: the sums by which the code judges many at once. The rule itself is in Good.
+-- The image, the layout of the mailboxes: what the code gathers to judge many at once. The rule itself is in Good.
 use Prim.Native.Nat.{ℕ, _<_, _≤_}
 use mathlib.Core.Path.{_≡_}
 use mathlib.Core.Bool.{Bool, true, _&&_}
 use lib.Dec.{ltb}
 use Rattle.mailboxes.specs.Mailbox.{wordLayout}
-use Rattle.good.specs.declared.Sums.{Sums}
+use Rattle.good.specs.declared.Gathered.{Gathered}
 
--- The image, the layout: the sum of words 0 does not reach its power of two, and the words 1 together have no forbidden bit.
-abbrev pub clean : Sums → Bool
+-- The image, the layout: what stands for words 0 does not reach its power of two, and words 1 together have no bit that must be zero.
+abbrev pub clean : Gathered → Bool
 clean x = ltb (x .identifiers) 4294967296 && wordLayout 1 (x .controls)
 
 -- t says whether p holds of every number from a on and below e.

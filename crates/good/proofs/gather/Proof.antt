@@ -1,7 +1,7 @@
 use Rattle.mailboxes.specs.Mailbox.{layout}
 use borrow.Author.Needs.{needs}
-use Rattle.good.proofs.sums_of.Statement.{statement}
-use Rattle.good.proofs.sums_of.Tie as tie
+use Rattle.good.proofs.gather.Statement.{statement}
+use Rattle.good.proofs.gather.Tie as tie
 
 word-requires : tie.Need-word-requires
 word-requires c κs = search needs
@@ -16,7 +16,7 @@ returns : tie.Need-returns
 unfolding layout
 returns c = cc
 
-pub sums-of-spec : {M : Type 1} → statement M
-sums-of-spec =
+pub gather-spec : {M : Type 1} → statement M
+gather-spec =
     tie.close
     (tie.spec word-requires identifier-sum-requires word-requires-2 returns)
