@@ -299,15 +299,25 @@ static uint8_t take_dlc(struct reader *r)
     return take_small(r, "a DLC, 0 to 15", FROSTSORREL_HIGHEST_DLC);
 }
 
-/* Beside data a DLC is their number; above 8 it stands for eight bytes (document 02, c). */
+/* Is all taken that an event is made of? Behind it stands how often, or nothing. */
+static int is_at_end(const struct reader *r)
+{
+    return r->length == 0 || stands(r, "x");
+}
+
+/*
+ * Beside data a DLC is their number; above 8 it stands for eight bytes (document 02, c). Where a word follows that is no
+ * data byte, that word is what is wrong.
+ */
 static void compare_dlc(struct reader *r, uint8_t dlc, int count)
 {
     int wanted = data_bytes_of(dlc);
 
-    if (r->broken || count == wanted)
+    if (count == wanted || !is_at_end(r))
         return;
     r->broken = 1;
-    fault(r->lines, "dlc %d, but %d data bytes%s", dlc, count, dlc > wanted ? "; a DLC above 8 has eight" : "");
+    fault(r->lines, "dlc %d, but %d data byte%s%s", dlc, count, count == 1 ? "" : "s",
+          dlc > wanted ? "; a DLC above 8 has eight" : "");
 }
 
 /* `dlc`, and the data behind `:`; without `dlc` the DLC is how many there are. Answers it. */
@@ -320,6 +330,8 @@ static uint8_t take_contents(struct reader *r, uint8_t *data, int *count)
     if (!takes(r, ":"))
         return dlc;
     *count = take_data(r, data);
+    if (stands(r, "dlc"))
+        wrong_word(r, "it may stand before \":\", and not behind it", "");
     if (is_given)
         compare_dlc(r, dlc, *count);
     return is_given ? dlc : (uint8_t)*count;
