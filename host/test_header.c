@@ -260,8 +260,8 @@ static void names(void)
     static const char *const refusals[] = {"accepted", "bad image", "unknown", "asleep", "not allowed",
                                            "busy", "locked", "slot empty", "bad trace", "no room"};
     static const char *const in_reason[] = {"taken", "the image is not", "there is no such", "while the model sleeps",
-                                            "the value is not allowed", "being sent, or waits", "in this mode",
-                                            "an outcome came while nothing", "three sections",
+                                            "the value or the DLC is not allowed", "being sent, or waits",
+                                            "in this mode", "an outcome came while nothing", "three sections",
                                             "does not fit"};
 
     names_are("operation", frostsorrel_operation_name, operations, COUNT(operations));

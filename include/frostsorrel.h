@@ -49,7 +49,7 @@ enum {
     FROSTSORREL_BAD_IMAGE = 1,   /* the image is not good */
     FROSTSORREL_UNKNOWN = 2,     /* no such operation, register, mailbox, word or outcome */
     FROSTSORREL_ASLEEP = 3,      /* not while the model sleeps */
-    FROSTSORREL_NOT_ALLOWED = 4, /* an unused byte is not 0, or the value is not allowed */
+    FROSTSORREL_NOT_ALLOWED = 4, /* an unused byte is not 0, or the value or the DLC is not allowed */
     FROSTSORREL_BUSY = 5,        /* something is being sent, or waits to be */
     FROSTSORREL_LOCKED = 6,      /* not in this mode, or not while the mailbox is enabled */
     FROSTSORREL_SLOT_EMPTY = 7,  /* an outcome, but nothing is being sent */
@@ -147,10 +147,11 @@ enum { FROSTSORREL_NO_MODE = 4, FROSTSORREL_EMPTY_SLOT = 31 };
 
 /*
  * The DLC of a frame, and of a mailbox, says how many data bytes a data frame carries. ISO 11898-1 lets
- * it be 9 to 15 in a classic frame, which then carries eight. The number is kept as it came.
+ * it be 9 to 15 in a classic data frame, which then carries eight, and in a remote frame, which carries
+ * none. The number is kept as it came.
  */
 #define FROSTSORREL_HIGHEST_DLC 15    /* a frame with a higher one gets refusal 4 */
-#define FROSTSORREL_MOST_DATA_BYTES 8 /* also of a higher DLC */
+#define FROSTSORREL_MOST_DATA_BYTES 8 /* a higher DLC stands for these eight */
 
 /* The bits of GIF, by the manual's names. */
 enum {
@@ -226,7 +227,8 @@ uint64_t frostsorrel_fresh(uint8_t *image, size_t image_len);
  *   2  event_len is not 16; or there is no such operation, register, mailbox, word or outcome; or it
  *      writes RML or RFP, which can only be read
  *   3  the model is asleep, and this is a register write, a mailbox write or options
- *   4  an unused byte is not 0, or the value is not allowed, or a frame has a DLC above 15
+ *   4  an unused byte is not 0; or a frame has a DLC above 15; or the value is not allowed, as one that
+ *      breaks the layout of word 0 or 1 of a mailbox
  *   5  busy: a frame, start or receive error while a mailbox is in the slot; a write to that mailbox,
  *      or to one whose TRS is set and CDR is not; an MC write that turns off, or an MD write that
  *      turns round, a mailbox with TRS set
@@ -551,7 +553,7 @@ static inline const char *frostsorrel_refusal_reason(uint32_t refusal)
         "the image is not one that the rules allow",
         "there is no such operation, register, mailbox, word or outcome, or it can only be read",
         "registers, mailboxes and options cannot be written while the model sleeps",
-        "the value is not allowed, or a byte that the event does not use is not 0",
+        "the value or the DLC is not allowed, or a byte that the event does not use is not 0",
         "a mailbox is being sent, or waits to be",
         "this cannot be changed in this mode, or while the mailbox is enabled",
         "an outcome came while nothing was being sent",
