@@ -8,7 +8,8 @@
  * that differ in one word or in nearly all, two of a run, bad ones on either side, with too little room for
  * the list, just enough, and more. A line before the sum says how often outcome 3 was taken, and how often by a
  * model that was passive before it, since the two count TEC differently, and how often only REC made it so. Another
- * says how many frames with a DLC above 8 were stored, data and remote ones, and how many had one above 15.
+ * says how many frames with a DLC of 9 to 15 were stored, data and remote ones, and how many were refused for nothing
+ * but a DLC above 15.
  */
 #include <stdlib.h>
 
@@ -198,7 +199,7 @@ static int is_stored(const struct trial *t, uint64_t answer)
 /* With the highest that is allowed in its place, refusal 4 would have no reason. */
 static int is_refused_for_its_dlc(struct trial t, uint64_t answer)
 {
-    if (frostsorrel_answer_refusal(answer) != FROSTSORREL_NOT_ALLOWED)
+    if (t.event[1] <= FROSTSORREL_HIGHEST_DLC || frostsorrel_answer_refusal(answer) != FROSTSORREL_NOT_ALLOWED)
         return 0;
     t.event[1] = FROSTSORREL_HIGHEST_DLC;
     return frostsorrel_answer_refusal(result_of(&t, reference_step).answer) != FROSTSORREL_NOT_ALLOWED;
@@ -208,8 +209,8 @@ static void count_dlc(const struct trial *t, uint64_t answer)
 {
     if (t->event[0] != FROSTSORREL_FRAME || t->event[1] <= FROSTSORREL_MOST_DATA_BYTES)
         return;
-    if (t->event[1] > FROSTSORREL_HIGHEST_DLC)
-        dlc_refused += is_refused_for_its_dlc(*t, answer);
+    if (is_refused_for_its_dlc(*t, answer))
+        dlc_refused++;
     else if (is_stored(t, answer) && frostsorrel_event_value(t->event) & FROSTSORREL_FRAME_RTR)
         remote_stored++;
     else if (is_stored(t, answer))

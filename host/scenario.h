@@ -39,7 +39,7 @@ void end(void);
                       COUNT(((const struct content[]){__VA_ARGS__}))
 #define given(...) put_given(CONTENTS(__VA_ARGS__))
 #define now(...) put_expected(CONTENTS(__VA_ARGS__))
-#define answers(event, mailbox, count) feed(HERE, event, 0, mailbox, count)
+#define answers(event, mailbox, count) feed(HERE, event, 0, (unsigned)(mailbox), (unsigned)(count))
 #define accept(event) answers(event, NOBODY, 0)
 #define refuse(event, refusal) feed(HERE, event, refusal, NOBODY, 0)
 #define reads(number, value) read_as(HERE, number, value)
