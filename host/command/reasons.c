@@ -115,8 +115,7 @@ static int uses(const uint8_t *event, int byte)
     if (byte >= 4 && byte < 8)
         return operation <= FROSTSORREL_FRAME || operation == FROSTSORREL_RECEIVE_ERROR ||
                operation == FROSTSORREL_MODE || operation == FROSTSORREL_OPTIONS;
-    return byte >= 8 && operation == FROSTSORREL_FRAME && byte - 8 < data_bytes_of(event[1]) &&
-           !(frostsorrel_event_value(event) & FROSTSORREL_FRAME_RTR);
+    return byte >= 8 && operation == FROSTSORREL_FRAME && byte - 8 < frame_bytes(event);
 }
 
 static void say_not_allowed(struct text *t, const uint8_t *event)

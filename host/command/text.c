@@ -64,7 +64,7 @@ static void write_register(struct text *t, uint8_t number, uint32_t value)
 static void write_frame(struct text *t, const uint8_t *event)
 {
     uint32_t value = frostsorrel_event_value(event);
-    int is_remote = (value & FROSTSORREL_FRAME_RTR) != 0, count = is_remote ? 0 : data_bytes_of(event[1]);
+    int is_remote = (value & FROSTSORREL_FRAME_RTR) != 0, count = frame_bytes(event);
 
     text_add(t, is_remote ? "remote " : "frame ");
     say_identifier(t, value);

@@ -76,6 +76,11 @@ int data_bytes_of(uint32_t dlc)
     return dlc < FROSTSORREL_MOST_DATA_BYTES ? (int)dlc : FROSTSORREL_MOST_DATA_BYTES;
 }
 
+int frame_bytes(const uint8_t *event)
+{
+    return frostsorrel_event_value(event) & FROSTSORREL_FRAME_RTR ? 0 : data_bytes_of(event[1]);
+}
+
 void say_bytes(struct text *t, const uint8_t *bytes, int count)
 {
     for (int i = 0; i < count; i++)
@@ -162,7 +167,7 @@ static void say_mailbox_write(struct text *t, const uint8_t *event)
 static void say_frame(struct text *t, const uint8_t *event)
 {
     uint32_t value = frostsorrel_event_value(event);
-    int is_remote = (value & FROSTSORREL_FRAME_RTR) != 0, count = is_remote ? 0 : data_bytes_of(event[1]);
+    int is_remote = (value & FROSTSORREL_FRAME_RTR) != 0, count = frame_bytes(event);
 
     text_add(t, is_remote ? "remote frame " : "frame ");
     say_identifier(t, value);

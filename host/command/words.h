@@ -44,6 +44,9 @@ void say_mailboxes(struct text *t, uint32_t bits);
 /* How many data bytes go with this DLC, in a frame that is not a remote one: so many, and eight at most. */
 int data_bytes_of(uint32_t dlc);
 
+/* How many a frame event carries: those that go with its DLC, and none if it is a remote frame. */
+int frame_bytes(const uint8_t *event);
+
 /* " 03 7F 11 22" */
 void say_bytes(struct text *t, const uint8_t *bytes, int count);
 
