@@ -178,8 +178,8 @@ static const char *take_shown_data(uint8_t *event, uint32_t identifier, int dlc,
     for (; p.length == 2 && length < sizeof digits; p = next_part(rest), length += 2)
         memcpy(digits + length, p.at, 2);
     if (p.length || (int)length != 2 * count)
-        return dlc > count ? "with a DLC above 8 stand eight data bytes, and nothing else"
-                           : "these are not as many data bytes as the brackets say, or not data bytes alone";
+        return dlc > count ? "behind a DLC above 8 stand eight data bytes, or `remote request`"
+                           : "these are not as many data bytes as the number before them says, or not data bytes alone";
     return take_data(event, identifier, digits, length, dlc > count ? dlc : 0);
 }
 
