@@ -116,8 +116,6 @@ static void check_idle(const struct run *r, int step, const char *name)
     text_free(&t);
 }
 
-static int above; /* how many frames of a DLC above 8 were told */
-
 /*
  * The bytes of a data frame are told, as many as its DLC says and eight at most, and the DLC where they do not say it.
  * Of a remote frame the DLC is told, and no byte.
@@ -125,19 +123,22 @@ static int above; /* how many frames of a DLC above 8 were told */
 static void check_frame(const uint8_t *event, const char *name)
 {
     int remote = event[7] >> 6 & 1, dlc = event[1], bytes = remote ? 0 : dlc < 8 ? dlc : 8;
-    struct text words = {0}, number = {0};
-    const char *data;
+    struct text words = {0}, wanted = {0};
 
     if (event[0] != FROSTSORREL_FRAME)
         return;
     say_event(&words, event);
-    text_add(&number, " DLC %d", dlc);
-    data = strstr(words.at, " data ");
-    check(data ? strlen(data) == strlen(" data") + 3 * (size_t)bytes : !bytes, "%s: %d bytes: %s", name, bytes, words.at);
-    check((strstr(words.at, number.at) != 0) == (remote || dlc > 8), "%s: DLC %d: %s", name, dlc, words.at);
-    above += dlc > 8;
+    text_add(&wanted, remote ? "remote frame " : "frame ");
+    say_identifier(&wanted, frostsorrel_event_value(event));
+    if (remote || dlc > 8)
+        text_add(&wanted, " DLC %d", dlc);
+    if (!remote)
+        text_add(&wanted, bytes ? " data" : " no data");
+    for (int i = 0; i < bytes; i++)
+        text_add(&wanted, " %02X", event[8 + i]);
+    check(strcmp(words.at, wanted.at) == 0, "%s: %s is told, and not %s", name, words.at, wanted.at);
     text_free(&words);
-    text_free(&number);
+    text_free(&wanted);
 }
 
 static int kept, kept_by_rec; /* how often a drawn unit kept its TEC, and how often only REC had made it passive */
@@ -432,6 +433,8 @@ static void check_any_bytes(void)
     check_bytes(file, "any bytes");
 }
 
+static uint32_t taken[2]; /* bit n: a data frame of DLC n was drawn and taken, or a remote one */
+
 /* Images that no trace of these comes to. */
 static void check_any_image(void)
 {
@@ -446,10 +449,13 @@ static void check_any_image(void)
     check_frame(event, "any image");
     answer = frostsorrel_step(image, sizeof image, event, FROSTSORREL_EVENT_BYTES);
     refusal = frostsorrel_answer_refusal(answer);
-    if (refusal != FROSTSORREL_ACCEPTED)
+    if (refusal != FROSTSORREL_ACCEPTED) {
         check_reason(before, event, refusal, "any image");
-    else
+    } else {
         check_kept_tec(before, event, answer, image, "any image");
+        if (event[0] == FROSTSORREL_FRAME)
+            taken[event[7] >> 6 & 1] |= BIT(event[1]);
+    }
 }
 
 int main(int argc, char **argv)
@@ -464,6 +470,7 @@ int main(int argc, char **argv)
         check_any_image();
     check(kept > kept_by_rec && kept_by_rec > 0, "%d drawn units kept their TEC, %d of them by REC alone", kept,
           kept_by_rec);
-    check(above > 0, "no frame of a DLC above 8 was drawn");
+    check(taken[0] == 0xFFFF && taken[1] == 0xFFFF,
+          "not every DLC was drawn: 0x%lX in data frames, 0x%lX in remote ones", wide(taken[0]), wide(taken[1]));
     return report("host report");
 }
