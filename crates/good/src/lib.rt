@@ -1,9 +1,10 @@
 // Is an image good?
 ghost use mathlib.Core.Path.{_≡_};
 ghost use mathlib.Core.Bool.{_&&_};
-ghost use lib.Dec.{ltb};
+ghost use lib.Dec.{eqb, ltb};
 ghost use Prim.Native.Nat.{_+_, _<_, _≤_};
 ghost use lib.ListN.{length};
+ghost use Rattle.words.specs.Word.{wordAt};
 ghost use Rattle.registers.specs.Block.{imageBytes};
 ghost use Rattle.mailboxes.specs.Mailbox.{layout, wordLayout};
 ghost use Rattle.good.specs.Good.{goodFlags, goodNumbers, goodSlot, goodBlock, goodLayouts, goodSpare, goodImage};
@@ -154,15 +155,23 @@ fn good_layouts(s: &[u8]) -> bool
     }
 }
 
-// The four spare words.
+// Are two words in a row zero? They are read as one number.
+fn are_zero(s: &[u8], at: usize) -> bool
+    requires { ⌜ (length (now s) ≡ imageBytes) × (at + 8 ≤ imageBytes) ⌝ }
+    ensures { λ r. ⌜ r ≡ (eqb (wordAt (now (s .entry)) at) 0 && eqb (wordAt (now (s .entry)) (at + 4)) 0) ⌝ }
+{
+    words::word_at(s, at) as u64 + 4294967296 * (words::word_at(s, at + 4) as u64) == 0
+}
+
+// The four spare words. Of four tests without a branch LLVM makes one of vectors, which costs more.
 fn good_spare(s: &[u8]) -> bool
     requires { ⌜ length (now s) ≡ imageBytes ⌝ }
     ensures { λ r. ⌜ r ≡ goodSpare (now (s .entry)) ⌝ }
 {
-    (words::word_at(s, 624) == 0)
-        & (words::word_at(s, 628) == 0)
-        & (words::word_at(s, 632) == 0)
-        & (words::word_at(s, 636) == 0)
+    if !are_zero(s, 624) {
+        return false;
+    }
+    are_zero(s, 632)
 }
 
 // Any bytes of any length: are they a good image?

@@ -1,34 +1,31 @@
-use mathlib.Core.List.{[], _∷_}
-use lib.Dec.{eqb}
-use Rattle.bits.specs.Tests.{every}
+use mathlib.Core.Path.{_≡_, sym, _∙_}
+use mathlib.Core.Bool.{Bool, true, false, _&&_}
+use borrow.Author.Tests.{not-true, not-false}
 use Rattle.good.specs.Good.{goodSpare}
 use borrow.Author.Needs.{needs}
 use Rattle.good.proofs.good_spare.Statement.{statement}
 use Rattle.good.proofs.good_spare.Tie as tie
 
-word-at-requires : tie.Need-word-at-requires
-word-at-requires c κs = search needs
+-- the first two words decide, or leave it to the others
+ends : (x y z : Bool) → x ≡ false → ((x && y) && z) ≡ false
+ends x y z h = rw h
 
-word-at-requires-2 : tie.Need-word-at-requires-2
-word-at-requires-2 c κs = search needs
+goes-on : (x y z : Bool) → x ≡ true → ((x && y) && z) ≡ (y && z)
+goes-on x y z h = rw h
 
-word-at-requires-3 : tie.Need-word-at-requires-3
-word-at-requires-3 c κs = search needs
-
-word-at-requires-4 : tie.Need-word-at-requires-4
-word-at-requires-4 c κs = search needs
+are-zero-requires : tie.Need-are-zero-requires
+are-zero-requires c κs = search needs
 
 returns : tie.Need-returns
 unfolding goodSpare
-returns c =
-    λ i. every
-    (eqb (c .before .before .before .word-at .ensures i) 0
-    ∷ eqb (c .before .before .word-at2 .ensures i) 0
-    ∷ eqb (c .before .word-at3 .ensures i) 0
-    ∷ eqb (c .word-at4 .ensures i) 0
-    ∷ [])
+returns c = sym (ends _ _ _ (sym (c .before .are-zero .ensures) ∙ not-true _ (c .if1 .taken)))
+
+are-zero-requires-2 : tie.Need-are-zero-requires-2
+are-zero-requires-2 c κs = search needs
+
+returns-2 : tie.Need-returns-2
+unfolding goodSpare
+returns-2 c = c .are-zero2 .ensures ∙ sym (goes-on _ _ _ (sym (c .before .before .are-zero .ensures) ∙ not-false _ (c .before .if1 .left)))
 
 pub good-spare-spec : {M : Type 1} → statement M
-good-spare-spec =
-    tie.close
-    (tie.spec word-at-requires word-at-requires-2 word-at-requires-3 word-at-requires-4 returns)
+good-spare-spec = tie.close (tie.spec are-zero-requires returns are-zero-requires-2 returns-2)
