@@ -25,9 +25,9 @@
 extern "C" {
 #endif
 
-#define FROSTSORREL_VERSION "0.4.0"
+#define FROSTSORREL_VERSION "0.5.0"
 #define FROSTSORREL_VERSION_MAJOR 0
-#define FROSTSORREL_VERSION_MINOR 4
+#define FROSTSORREL_VERSION_MINOR 5
 #define FROSTSORREL_VERSION_PATCH 0
 
 #define FROSTSORREL_IMAGE_BYTES 640
@@ -42,6 +42,9 @@ extern "C" {
 
 #define FROSTSORREL_ENTRY_BYTES 12        /* of a list of differences */
 #define FROSTSORREL_DIFFERENCE_BYTES 1920 /* room for any such list: an entry for each word */
+
+#define FROSTSORREL_LINE_BYTES 8          /* of an explanation */
+#define FROSTSORREL_EXPLANATION_BYTES 256 /* room for any explanation: a line for each mailbox */
 
 /* The refusals. Where several apply, the lowest is given. */
 enum {
@@ -185,6 +188,19 @@ enum {
     FROSTSORREL_WUBA = 2  /* a frame wakes the model */
 };
 
+/* The reasons of an explanation. A mailbox gets the first that holds of it. */
+enum {
+    FROSTSORREL_DISABLED = 1,    /* the mailbox is not enabled in MC */
+    FROSTSORREL_TRANSMITS = 2,   /* it transmits, and the frame is a data frame */
+    FROSTSORREL_IDE_DIFFERS = 3, /* one is standard and the other extended, and no mask frees IDE */
+    FROSTSORREL_BIT_DIFFERS = 4, /* an identifier bit that is compared and not freed */
+    FROSTSORREL_MATCHED = 5,     /* the search stops here */
+    FROSTSORREL_NOT_HEARD = 6    /* no mailbox: the model takes no part on the bus */
+};
+
+/* In the place of the mode, where a frame is not heard: the model is in bus off. */
+enum { FROSTSORREL_IN_BUS_OFF = 4 };
+
 /* The levels of TEC and REC: above 96 is warning, above 127 is passive, and TEC 256 is bus off. */
 enum { FROSTSORREL_WARNING_ABOVE = 96, FROSTSORREL_PASSIVE_ABOVE = 127, FROSTSORREL_BUS_OFF_TEC = 256 };
 
@@ -307,6 +323,43 @@ uint64_t frostsorrel_listing(const uint8_t *trace, size_t trace_len, uint8_t *te
  */
 uint64_t frostsorrel_compare(const uint8_t *first, size_t first_len, const uint8_t *second,
                              size_t second_len, uint8_t *list, size_t list_len);
+
+/*
+ * Explains why a frame lands where it does: for each mailbox, in the order of the search, why it is not the
+ * one, up to the one that is. The image is only read: it stays the model before the frame.
+ *
+ * The event is a frame as frostsorrel_step takes it. A line is 8 bytes: mailbox, reason, bit, five zeros.
+ * A frame that is heard (normal mode, TEC below 256) gets a line for mailbox 0, 1 and so on, disabled ones
+ * too, up to and with the first that matches, where the search of a step stops; where none matches, for all
+ * 32. Its reason is the first of these that holds:
+ *
+ *   1  the mailbox is disabled
+ *   2  it transmits, and the frame is a data frame
+ *   3  IDE differs
+ *   4  a compared bit of the identifier differs; `bit` is the highest such, 28 to 0 as in word 0
+ *   5  matched
+ *
+ * IDE or a bit that the mailbox's mask frees does not differ. Matched is also a transmit mailbox with RFH 0,
+ * which ends the search though a step then answers mailbox 32. The lines with reasons 3, 4 and 5 are as many
+ * as the step's count. But for reason 4, and 6 below, `bit` is 0.
+ *
+ * A frame that is not heard gets one line: mailbox 32, reason 6, and in the place of the bit the mode, 1 to
+ * 3, or 4 in bus off; asleep with WUBA too, where a step wakes the model. A mailbox in the slot does not
+ * matter: there is no refusal 5.
+ *
+ * The first line that applies decides:
+ *
+ *   the image is not good (a length other than 640 included)                        refusal 1
+ *   event_len is not 16, or the operation is not 2                                  refusal 2
+ *   an unused byte of the event is not 0, or its DLC or identifier is not allowed   refusal 4
+ *   8 bytes for each line are more than list_len                                    refusal 9
+ *
+ * A refused call writes no byte and answers mailbox 32, count 0. Any other puts the lines at the front of
+ * `list`, where every byte past them stays, and answers refusal 0, mailbox 32, and in the count how many
+ * lines there are. 256 bytes are room for any explanation. `list` may overlap neither image nor event.
+ */
+uint64_t frostsorrel_explain(const uint8_t *image, size_t image_len, const uint8_t *event, size_t event_len,
+                             uint8_t *list, size_t list_len);
 
 /* ---- identifiers: the number that people write, and word 0 of a mailbox or the value of a frame */
 
@@ -457,9 +510,32 @@ static inline uint32_t frostsorrel_entry_second(const uint8_t *list, size_t entr
     return frostsorrel_word(list + FROSTSORREL_ENTRY_BYTES * entry + 8);
 }
 
+/* ---- explanations: line 0 and on, as many as the answer counts */
+
+/* The mailbox, or 32 where the frame is not heard. */
+static inline uint32_t frostsorrel_line_mailbox(const uint8_t *list, size_t line)
+{
+    return list[FROSTSORREL_LINE_BYTES * line];
+}
+
+/* FROSTSORREL_DISABLED to FROSTSORREL_NOT_HEARD. */
+static inline uint32_t frostsorrel_line_reason(const uint8_t *list, size_t line)
+{
+    return list[FROSTSORREL_LINE_BYTES * line + 1];
+}
+
+/*
+ * With FROSTSORREL_BIT_DIFFERS the bit's number in word 0; with FROSTSORREL_NOT_HEARD the mode, or
+ * FROSTSORREL_IN_BUS_OFF; else 0.
+ */
+static inline uint32_t frostsorrel_line_bit(const uint8_t *list, size_t line)
+{
+    return list[FROSTSORREL_LINE_BYTES * line + 2];
+}
+
 /* ---- answers */
 
-/* The parts of what fresh, step and compare answer: refusal + 256 * mailbox + 65536 * count. */
+/* The parts of what fresh, step, compare and explain answer: refusal + 256 * mailbox + 65536 * count. */
 static inline uint32_t frostsorrel_answer_refusal(uint64_t answer)
 {
     return (uint32_t)(answer & 0xFF);
@@ -535,6 +611,15 @@ static inline const char *frostsorrel_mode_name(uint32_t mode)
     static const char *const names[] = {"normal", "configuration", "sleep", "suspend", "none"};
 
     return frostsorrel_name_of(names, sizeof names / sizeof names[0], mode);
+}
+
+/* A reason of an explanation, 1 to 6. */
+static inline const char *frostsorrel_reason_name(uint32_t reason)
+{
+    static const char *const names[] = {"no name",     "disabled", "transmits", "IDE differs",
+                                        "bit differs", "matched",  "not heard"};
+
+    return frostsorrel_name_of(names, sizeof names / sizeof names[0], reason);
 }
 
 static inline const char *frostsorrel_refusal_name(uint32_t refusal)
