@@ -3,3 +3,4 @@ pub mod Laws
 pub mod Sets
 pub mod Tests
 pub mod Below
+pub mod Zeros

@@ -1,6 +1,7 @@
 -- A bit of a word, and the words that come of setting and clearing bits.
-use Prim.Native.Nat.{ℕ, _/_, _%_, _^_}
-use mathlib.Core.Bool.{Bool, cond}
+use Prim.Native.Nat.{ℕ, _/_, _%_, _^_, _<_}
+use mathlib.Core.Path.{_≡_}
+use mathlib.Core.Bool.{Bool, true, false, cond}
 use lib.Dec.{eqb}
 use lib.Bits.{bitAnd, bitOr, bitXor}
 
@@ -26,3 +27,8 @@ setBit w n = bitOr w (mask n)
 -- Bit n where t holds, no bit where it does not.
 abbrev pub flag : Bool → ℕ → ℕ
 flag t n = cond t (mask n) 0
+
+-- Bit n is the highest of w: it is up, and none above it is.
+pub record Highest (w n : ℕ) : Type 0 where
+  pub up : bit w n ≡ true
+  pub above : (m : ℕ) → n < m → bit w m ≡ false

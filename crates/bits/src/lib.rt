@@ -1,7 +1,7 @@
 // Flag words: one bit for each mailbox. Everything here is said for any bit number.
 ghost use mathlib.Core.Path.{_≡_};
 ghost use Prim.Native.Nat.{_<_};
-ghost use Rattle.bits.specs.Bit.{bit, mask as maskOf, setBit, without as withoutOf, flag as flagOf};
+ghost use Rattle.bits.specs.Bit.{bit, mask as maskOf, setBit, without as withoutOf, flag as flagOf, Highest};
 ghost use mathlib.Core.Bool.{cond};
 
 // The word whose only bit is n.
@@ -48,4 +48,12 @@ pub fn choose(t: bool, a: u32, b: u32) -> u32
     ensures { λ r. ⌜ r ≡ cond t a b ⌝ }
 {
     if t { a } else { b }
+}
+
+// The number of the highest bit of w.
+pub fn highest(w: u32) -> u32
+    requires { ⌜ 0 < w ⌝ }
+    ensures { λ r. ⌜ Highest w r ⌝ }
+{
+    31 - u32::leading_zeros(w)
 }
