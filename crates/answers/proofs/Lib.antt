@@ -1,2 +1,3 @@
 -- The parts of an answer.
 pub mod Parts
+pub mod Lists

@@ -1,5 +1,5 @@
 -- The whole outcome of a call, and the one number that C sees of it.
-use Prim.Native.Nat.{ℕ, _+_, _*_, _^_}
+use Prim.Native.Nat.{ℕ, _+_, _*_, _^_, _<_, _≤_}
 use mathlib.Core.Path.{_≡_}
 use mathlib.Core.List.{List, _++_}
 use lib.ListN.{length, drop}
@@ -56,3 +56,8 @@ Refuses r o exit answer = (exit ≡ o) × (answer ≡ packed r noMailbox 0)
 -- Document 02: one that is not refused puts the bytes of its list at the front of o, where those past it stay, and counts the entries.
 abbrev pub Tells : ℕ → List ℕ → List ℕ → List ℕ → ℕ → Type 0
 Tells count text o exit answer = (exit ≡ text ++ drop (length text) o) × (answer ≡ packed 0 noMailbox count)
+
+-- Document 02: such a call is refused with 9 exactly where its list takes more bytes than were lent.
+pub record Fitted (count : ℕ) (text o exit : List ℕ) (answer : ℕ) : Type 0 where
+  pub short : length o < length text → Refuses 9 o exit answer
+  pub fits : length text ≤ length o → Tells count text o exit answer

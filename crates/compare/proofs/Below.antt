@@ -2,7 +2,7 @@
 use Prim.Native.Nat.{ℕ, zero, suc, _+_, _*_, _^_, _<_, _≤_}
 use mathlib.Core.Path.{_≡_, refl, sym, _∙_, ap, ap₂}
 use mathlib.Core.Bool.{Bool, true, false, _&&_}
-use mathlib.Core.List.{List, [], _∷_, _++_, append-assoc, append-nil, flatMap}
+use mathlib.Core.List.{List, [], _∷_, _++_, append-assoc, append-nil}
 use mathlib.Core.Logic.{_≢_}
 use native.Mathlib.Numerals.{add-one}
 use native.Mathlib.Omega.{arith}
@@ -10,6 +10,7 @@ use lib.Dec.{eqb, leb}
 use lib.ListN.{length, length-append}
 use borrow.Author.Tests.{eqb-true, eqb-false, eq-eqb, ne-eqb, leb-true, leb-false}
 use Rattle.bits.proofs.Sets.{and-l, and-r}
+use Rattle.texts.proofs.Parts.{parts-none, parts-one, parts-more, parts-both, parts-length}
 use Rattle.compare.specs.declared.Entry.{Entry}
 use Rattle.compare.specs.Compare.{imageWords, imageWord, difference, differencesBelow, differences, entryBytes, listBytes}
 use Rattle.compare.specs.Terms.{same, sameTwo, sameFour, oneBytes, fourBytes}
@@ -97,21 +98,20 @@ module _ (a b : List ℕ) where
 -- ---- the bytes of a list
 
 pub list-none : listBytes [] ≡ []
-unfolding listBytes flatMap
-list-none = refl
+unfolding listBytes
+list-none = parts-none entryBytes
 
 pub list-one : (e : Entry) → listBytes (e ∷ []) ≡ entryBytes e
-unfolding listBytes flatMap
-list-one e = append-nil (entryBytes e)
+unfolding listBytes
+list-one = parts-one entryBytes
 
 pub list-more : (e : Entry) (es : List Entry) → listBytes (e ∷ es) ≡ entryBytes e ++ listBytes es
-unfolding listBytes flatMap
-list-more e es = refl
+unfolding listBytes
+list-more = parts-more entryBytes
 
 pub list-both : (es fs : List Entry) → listBytes (es ++ fs) ≡ listBytes es ++ listBytes fs
-unfolding listBytes flatMap
-list-both [] fs = refl
-list-both (e ∷ es) fs = ap (λ (t : List ℕ). entryBytes e ++ t) (list-both es fs) ∙ sym (append-assoc (entryBytes e) (listBytes es) (listBytes fs))
+unfolding listBytes
+list-both = parts-both entryBytes
 
 -- four words more
 module _ (a b : List ℕ) where
@@ -140,6 +140,5 @@ module _ (a b : List ℕ) where
 
 -- 12 an entry
 pub length-list : (es : List Entry) → length (listBytes es) ≡ 12 * length es
-unfolding listBytes flatMap
-length-list [] = refl
-length-list (e ∷ es) = length-append (entryBytes e) (listBytes es) ∙ omega (arith, length-list es)
+unfolding listBytes
+length-list = parts-length entryBytes 12 (λ e. refl)

@@ -1,12 +1,12 @@
 -- Document 02, request a: comparing two images. The list of what differs, its bytes, and what a C caller has after the call.
-use Prim.Native.Nat.{ℕ, zero, suc, _*_, _<_, _≤_}
+use Prim.Native.Nat.{ℕ, zero, suc, _*_}
 use mathlib.Core.Bool.{cond}
 use mathlib.Core.List.{List, [], _∷_, _++_, flatMap}
 use lib.Dec.{eqb}
 use lib.ListN.{length}
 use Rattle.words.specs.Word.{wordAt}
 use Rattle.texts.specs.Text.{wordBytes}
-use Rattle.answers.specs.Answer.{Refuses, Tells}
+use Rattle.answers.specs.Answer.{Refuses, Fitted}
 use Rattle.compare.specs.declared.Entry.{Entry}
 
 -- Comparing two images: a word's number is its place in the whole image, 0 to 159: four words of each mailbox, then the 32 register words.
@@ -39,12 +39,8 @@ entryBytes e = wordBytes (e .number) ++ (wordBytes (e .first) ++ wordBytes (e .s
 unfoldable pub listBytes : List Entry → List ℕ
 listBytes es = flatMap entryBytes es
 
--- Comparing two images: refused with 9 exactly where the entries take more bytes than o, those that were lent; else the list is written.
-pub record Fitted (a b o exit : List ℕ) (answer : ℕ) : Type 0 where
-  pub short : length o < entrySize * length (differences a b) → Refuses 9 o exit answer
-  pub fits : entrySize * length (differences a b) ≤ length o → Tells (length (differences a b)) (listBytes (differences a b)) o exit answer
-
--- Comparing two images, the call: refused with 1 unless both images are good, which `good` says of them, and before anything else.
+-- Comparing two images, the call: refused with 1 unless both images are good, which `good` says of them, and before anything else. Else the
+-- list is written, where it fits the lent bytes o.
 pub record Compares (good : Type 0) (a b o exit : List ℕ) (answer : ℕ) : Type 0 where
   pub bad : (good → ⊥) → Refuses 1 o exit answer
-  pub fitted : good → Fitted a b o exit answer
+  pub fitted : good → Fitted (length (differences a b)) (listBytes (differences a b)) o exit answer

@@ -5,8 +5,8 @@ ghost use Prim.Native.Nat.{_+_, _*_, _/_, _<_, _≤_};
 ghost use lib.ListN.{length};
 ghost use Rattle.registers.specs.Block.{imageBytes};
 ghost use Rattle.texts.specs.Text.{Put};
-ghost use Rattle.answers.specs.Answer.{noMailbox, packed};
-ghost use Rattle.compare.specs.Compare.{imageWords, imageWord, differences, entrySize, entryBytes, listBytes, Fitted, Compares};
+ghost use Rattle.answers.specs.Answer.{noMailbox, packed, Fitted};
+ghost use Rattle.compare.specs.Compare.{imageWords, imageWord, differences, entrySize, entryBytes, listBytes, Compares};
 ghost use Rattle.compare.specs.Terms.{bothGood, sameTwo, sameFour, oneBytes, fourBytes};
 
 const IMAGE_WORDS: usize = 160;
@@ -112,7 +112,7 @@ fn counted(end: usize) -> u64
 // The list, where it may not fit: it is made apart from the lent bytes, since a refusal writes nothing.
 fn tell_if_it_fits(first: &[u8], second: &[u8], list: &mut [u8]) -> u64
     requires { ⌜ (length (now first) ≡ imageBytes) × (length (now second) ≡ imageBytes) ⌝ }
-    ensures { λ r. ⌜ Fitted (now (first .entry)) (now (second .entry)) (now (list .entry)) (now (list .exit)) r ⌝ }
+    ensures { λ r. ⌜ Fitted (length (differences (now (first .entry)) (now (second .entry)))) (listBytes (differences (now (first .entry)) (now (second .entry)))) (now (list .entry)) (now (list .exit)) r ⌝ }
 {
     let mut apart = [0u8; 1920];
     let end = put_list(first, second, &mut apart);

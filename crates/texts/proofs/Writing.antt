@@ -7,6 +7,8 @@ use native.Mathlib.Numerals.{add-one}
 use lib.ListN.{length, take, drop, set, length-append, length-set, take-append-drop}
 use lib.Seq.{take-suc-set, drop-set-lt, take-append-seam}
 use Rattle.words.specs.Word.{putWord}
+use Rattle.answers.specs.Answer.{noMailbox, packed, Fitted}
+use Rattle.answers.proofs.Lists.{long-enough}
 use Rattle.texts.specs.Text.{written, Put, wordBytes}
 
 pub length-written : (o : List ℕ) (at : ℕ) (t : List ℕ) → length (written o at t) ≡ length o
@@ -85,6 +87,10 @@ pub front-of : {o t x : List ℕ} {p : ℕ} → length t ≤ length o → Put o 
 front-of {o} {t} h w =
     let z : 0 + length t ≡ length t = omega arith in
     ap₂ take (w .behind ∙ z) (at-front h w) ∙ take-append-seam t (drop (length t) o)
+
+-- so a list that was put there, where there is room for it, is told
+pub put-down : {count : ℕ} {o t x : List ℕ} {p r : ℕ} → length t ≤ length o → Put o 0 t x p → r ≡ packed 0 noMailbox count → Fitted count t o x r
+put-down l w e = long-enough l (at-front l w, e)
 
 -- the room for the first of two texts
 pub front : (t u : List ℕ) (at n : ℕ) → at + length (t ++ u) ≤ n → at + length t ≤ n

@@ -5,9 +5,10 @@ use mathlib.Core.List.{List}
 use native.Mathlib.Omega.{arith}
 use borrow.Author.Needs.{needs}
 use borrow.Author.Tests.{not-true, not-false}
+use Rattle.texts.proofs.Writing.{put-down}
 use Rattle.compare.specs.Terms.{bothGood}
 use Rattle.compare.proofs.Below.{list-most}
-use Rattle.compare.proofs.Call.{long-first, long-second, list-long, put-down, call-bad, call-good}
+use Rattle.compare.proofs.Call.{long-first, long-second, list-long, counted-by, call-bad, call-good}
 use Rattle.compare.proofs.compare.Statement.{statement}
 use Rattle.compare.proofs.compare.Tie as tie
 
@@ -63,7 +64,8 @@ returns-3 : tie.Need-returns-3
 returns-3 c =
     let g = c .before .before .before .before .before .before in
     call-good _ _ _ _ _ (both-good g)
-    (put-down (first g) (second g) _ _ _ (omega (arith, c .before .before .before .before .before .if2 .left, list-most (first g) (second g))) (c .before .before .before .put-list .ensures) (c .counted .ensures))
+    (put-down (omega (arith, c .before .before .before .before .before .if2 .left, list-long (first g) (second g), list-most (first g) (second g))) (c .before .before .before .put-list .ensures)
+    (counted-by (first g) (second g) (c .before .before .before .put-list .ensures) (c .counted .ensures)))
 
 pub compare-spec : {M : Type 1} → statement M
 compare-spec =

@@ -4,10 +4,11 @@ use mathlib.Core.List.{List}
 use native.Mathlib.Omega.{arith}
 use lib.ListN.{length, take}
 use borrow.Author.Needs.{needs}
-use Rattle.texts.proofs.Writing.{as-text, front-of, kept}
+use Rattle.answers.proofs.Lists.{too-short}
+use Rattle.texts.proofs.Writing.{as-text, front-of, kept, put-down}
 use Rattle.compare.specs.Compare.{differences, listBytes}
 use Rattle.compare.proofs.Below.{list-most}
-use Rattle.compare.proofs.Call.{list-long, too-long, put-down}
+use Rattle.compare.proofs.Call.{list-long, counted-by}
 use Rattle.compare.proofs.tell_if_it_fits.Statement.{statement}
 use Rattle.compare.proofs.tell_if_it_fits.Tie as tie
 
@@ -38,7 +39,7 @@ apart c = front-of (omega (arith, list-long (first c) (second c), list-most (fir
 returns : tie.Need-returns
 returns c =
     let w = c .before .before .before in
-    too-long (first w) (second w) _ _ _ (omega (arith, ends w, c .before .if1 .taken)) (refl, c .pack .ensures)
+    too-short (omega (arith, ends w, list-long (first w) (second w), c .before .if1 .taken)) (refl, c .pack .ensures)
 
 array-share-prefix-apart : tie.Need-array-share-prefix-apart
 array-share-prefix-apart c =
@@ -67,7 +68,8 @@ returns-2 : tie.Need-returns-2
 returns-2 c =
     let w = c .before .before .before .before .before .before .before .before in
     let p = as-text (apart w) (c .before .before .before .put-text .ensures) in
-    put-down (first w) (second w) _ _ _ (omega (arith, c .before .before .before .before .before .before .if1 .left, ends w)) (record { bytes = p .bytes; behind = w .put-list .ensures .behind }) (c .counted .ensures)
+    put-down (omega (arith, c .before .before .before .before .before .before .if1 .left, ends w, list-long (first w) (second w))) p
+    (counted-by (first w) (second w) (w .put-list .ensures) (c .counted .ensures))
 
 pub tell-if-it-fits-spec : {M : Type 1} → statement M
 tell-if-it-fits-spec =
