@@ -1,8 +1,10 @@
 -- How the refusals of an event are found: by its length, by its operation, and by one test of what is allowed.
 use Prim.Native.Nat.{ℕ, zero, suc, _*_, _/_, _^_, _<_, _≤_}
 use mathlib.Core.Path.{_≡_, refl, sym, _∙_, ap, subst}
-use mathlib.Core.Bool.{Bool, true, false, cond, not, _&&_}
+use mathlib.Core.Bool.{Bool, true, false, cond, not, _&&_, and-false}
 use mathlib.Core.List.{List}
+use mathlib.Core.Logic.{_≢_}
+use lib.Dec.{eqb}
 use native.Mathlib.Decide.{ℕ-discrete}
 use native.Mathlib.Omega.{arith}
 use lib.ListN.{length, List·getD-eq-default}
@@ -12,7 +14,7 @@ use Rattle.bits.proofs.Below.{past}
 use Rattle.events.specs.declared.Event.{Event}
 use Rattle.events.specs.declared.Event.the-variants.{Refused}
 use Rattle.events.specs.Parts.{eventBytes, operation, quiet}
-use Rattle.events.specs.Decode.{decoded, decodedAs}
+use Rattle.events.specs.Decode.{quietAs, allowedAs, decoded, decodedAs, frameRefusal}
 
 -- The events: operations 0 to 10.
 abbrev pub operations : ℕ
@@ -69,3 +71,18 @@ plain-or v e = quiet-or (quiet e false false false 0) v
 -- n bytes are shifted out in two halves
 pub halves : (x n : ℕ) → x / 2 ^ (4 * n) / 2 ^ (4 * n) ≡ x / 2 ^ (8 * n)
 halves x n = shr-shr x (4 * n) (4 * n) ∙ ap (λ (k : ℕ). x / 2 ^ k) (omega arith)
+
+-- ---- what has to be a frame: by its length, its operation, and one test of what is allowed
+
+module _ (e : List ℕ) where
+  pub other-length : length e ≢ eventBytes → frameRefusal e ≡ 2
+  unfolding frameRefusal
+  other-length h = rw (ne-eqb _ _ h)
+
+  pub other-operation : operation e ≢ 2 → frameRefusal e ≡ 2
+  unfolding frameRefusal
+  other-operation h = rw (ne-eqb _ _ h, and-false (eqb (length e) eventBytes))
+
+  pub a-frame : length e ≡ eventBytes → operation e ≡ 2 → frameRefusal e ≡ cond (not (quietAs 2 e && allowedAs 2 e)) 4 0
+  unfolding frameRefusal
+  a-frame l o = rw (eq-eqb _ _ l, eq-eqb _ _ o)

@@ -127,3 +127,9 @@ unfoldable pub decodedAs : ℕ → Bool → List ℕ → Event
 decodedAs op asleep e =
     cond (not (knownAs op e)) (Refused 2)
     (cond (wakefulAs op && asleep) (Refused 3) (cond (not (quietAs op e && allowedAs op e)) (Refused 4) (eventAs op e)))
+
+-- Document 02, d): an event that has to be a frame is refused with 2 where it is not 16 bytes or has another operation than 2, else with 4
+-- as in a step; 0 says that it is not refused.
+unfoldable pub frameRefusal : List ℕ → ℕ
+frameRefusal e =
+    cond (not (eqb (length e) eventBytes && eqb (operation e) 2)) 2 (cond (not (quietAs 2 e && allowedAs 2 e)) 4 0)

@@ -3,6 +3,8 @@ mod frames;
 mod parts;
 mod writes;
 
+pub use frames::frame_of;
+pub use frames::frame_refusal;
 ghost use mathlib.Core.Path.{_≡_};
 ghost use mathlib.Core.Bool.{false, cond};
 ghost use lib.ListN.{length};

@@ -18,7 +18,7 @@ use Rattle.registers.specs.declared.Block.{Block}
 use Rattle.mailboxes.specs.Mailbox.{ide, maskable, identifier}
 use Rattle.mailboxes.specs.Arbitration.{identifierOf, base}
 use Rattle.events.specs.declared.Frame.{Frame}
-use Rattle.filter.specs.Filter.{lastMailbox, freed, compared, frameWord, matches}
+use Rattle.filter.specs.Filter.{lastMailbox, maskFor, freed, compared, frameWord, differing, matches}
 
 -- ---- two tests that do not differ
 
@@ -53,7 +53,7 @@ Agrees b f n w =
     (i : ℕ) → bit (compared f) i ≡ true → bit (freed b n w) i ≡ false → bit w i ≡ bit (frameWord f) i
 
 module _ (b : Block) (f : Frame) (n w : ℕ) where
-  seen : (i : ℕ) → bit (without (bitAnd (bitXor w (frameWord f)) (compared f)) (freed b n w)) i
+  pub seen : (i : ℕ) → bit (differing (maskFor b n) f w) i
       ≡ ((xor (bit w i) (bit (frameWord f) i) && bit (compared f) i) && not (bit (freed b n w) i))
   seen i =
       bit-without (bitAnd (bitXor w (frameWord f)) (compared f)) (freed b n w) i
@@ -64,15 +64,15 @@ module _ (b : Block) (f : Frame) (n w : ℕ) where
   pub match-agrees : matches b f n w ≡ true → Agrees b f n w
   unfolding matches
   match-agrees h i p q =
-      let e = eqb-true (without (bitAnd (bitXor w (frameWord f)) (compared f)) (freed b n w)) 0 h in
+      let e = eqb-true (differing (maskFor b n) f w) 0 h in
       unseen (bit w i) (bit (frameWord f) i) (bit (compared f) i) (bit (freed b n w) i)
       (sym (seen i) ∙ ap (λ (x : ℕ). bit x i) e ∙ bit-zero i) p q
 
   pub agrees-match : Agrees b f n w → matches b f n w ≡ true
   unfolding matches
   agrees-match h =
-      eq-eqb (without (bitAnd (bitXor w (frameWord f)) (compared f)) (freed b n w)) 0
-      (same-bits (without (bitAnd (bitXor w (frameWord f)) (compared f)) (freed b n w)) 0
+      eq-eqb (differing (maskFor b n) f w) 0
+      (same-bits (differing (maskFor b n) f w) 0
       (λ i.
       seen i
       ∙ none-seen (bit w i) (bit (frameWord f) i) (bit (compared f) i) (bit (freed b n w) i) (h i)

@@ -44,9 +44,13 @@ compared f = cond (f .ide) 0x9FFFFFFF 0x9FFC0000
 abbrev pub frameWord : Frame → ℕ
 frameWord f = flag (f .ide) 31 + f .id .0
 
--- Receiving: word 0, w, agrees with the frame: no compared bit differs but those that the mask frees.
+-- Receiving: the compared bits in which word 0, w, differs from the frame, but those that the mask frees.
+abbrev pub differing : ℕ → Frame → ℕ → ℕ
+differing mask f w = without (bitAnd (bitXor w (frameWord f)) (compared f)) (freedBy mask w)
+
+-- Receiving: word 0, w, agrees with the frame: it differs in none.
 abbrev pub agreeing : ℕ → Frame → ℕ → Bool
-agreeing mask f w = eqb (without (bitAnd (bitXor w (frameWord f)) (compared f)) (freedBy mask w)) 0
+agreeing mask f w = eqb (differing mask f w) 0
 
 -- Receiving: mailbox n, whose word 0 is w, matches the frame.
 unfoldable pub matches : Block → Frame → ℕ → ℕ → Bool

@@ -4,7 +4,7 @@ ghost use mathlib.Core.Bool.{false};
 ghost use Prim.Native.Nat.{ℕ, _<_};
 ghost use lib.ListN.{length};
 ghost use Rattle.registers.specs.Block.{imageBytes, blockOf};
-ghost use Rattle.filter.specs.Filter.{candidates as candidatesOf, compared as comparedOf, frameWord, lastMailbox, agreeing, hits, comparedBelow, found, placed, delivery};
+ghost use Rattle.filter.specs.Filter.{candidates as candidatesOf, compared as comparedOf, frameWord, lastMailbox, differing as differingOf, agreeing, hits, comparedBelow, found, placed, delivery};
 use events::Frame;
 use registers::Block;
 
@@ -43,13 +43,21 @@ fn frame_word(f: Frame) -> u32
     mailboxes::word_of(f.id, f.ide)
 }
 
-// Does word 0, w, agree with the frame in every compared bit that the mask does not free?
+// The compared bits in which word 0, w, differs from the frame, but those that the mask frees.
+pub fn differing(mask: u32, f: Frame, w: u32) -> u32
+    requires { ⌜ f .id .0 < 536870912 ⌝ }
+    ensures { λ r. ⌜ r ≡ differingOf mask f w ⌝ }
+{
+    let differ = (w ^ frame_word(f)) & compared(f);
+    bits::without(differ, bits::choose(bits::test(w, 30), mask, 0))
+}
+
+// Does word 0, w, agree with the frame?
 fn agrees(mask: u32, f: Frame, w: u32) -> bool
     requires { ⌜ f .id .0 < 536870912 ⌝ }
     ensures { λ r. ⌜ r ≡ agreeing mask f w ⌝ }
 {
-    let differ = (w ^ frame_word(f)) & compared(f);
-    bits::without(differ, bits::choose(bits::test(w, 30), mask, 0)) == 0
+    differing(mask, f, w) == 0
 }
 
 // Mailbox 31, which has a mask of its own, once those before it do not match.

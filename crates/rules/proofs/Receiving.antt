@@ -63,11 +63,11 @@ module _ (s e : List ℕ) where
   abbrev pub f : EventFrame
   f = frameOf e
 
-  compared-same : (n : ℕ) → isCompared s f n ≡ compared s e n
+  pub compared-same : (n : ℕ) → isCompared s f n ≡ compared s e n
   unfolding frameOf blockOf wordsOf
   compared-same n = candidate-bit (blockOf s) f n
 
-  freed-same : (n i : ℕ) → bit (cond (maskable (box s n 0)) (maskFor (blockOf s) n) 0) i ≡ freed s n i
+  pub freed-same : (n i : ℕ) → bit (cond (maskable (box s n 0)) (maskFor (blockOf s) n) 0) i ≡ freed s n i
   unfolding blockOf wordsOf
   freed-same n i = at (maskable (box s n 0)) (eqb n 31)
     where
@@ -76,7 +76,7 @@ module _ (s e : List ℕ) where
       at true false = refl
       at false u = bit-zero i
 
-  frame-same : (i : ℕ) → matters e i ≡ true → bit (cond (value e has 31) (2 ^ 31) 0 + value e % 2 ^ 29) i ≡ (value e has i)
+  pub frame-same : (i : ℕ) → matters e i ≡ true → bit (cond (value e has 31) (2 ^ 31) 0 + value e % 2 ^ 29) i ≡ (value e has i)
   unfolding frameOf
   frame-same i h = frame-bit f (omega arith) i ∙ at (eqb i 31) refl
     where
@@ -89,12 +89,12 @@ module _ (s e : List ℕ) where
           let l = ltb-true i 29 (and-l (ltb i 29) (value e has 31 || leb 18 i) (rw q at h)) in
           rw (q, and-false (value e has 31)) (bit-mod (value e) 29 i l)
 
-  match-same : (n : ℕ) → isMatching s f n ≡ true → Matches s e n
+  pub match-same : (n : ℕ) → isMatching s f n ≡ true → Matches s e n
   unfolding frameOf
   match-same n h i m z =
       match-agrees (blockOf s) f n (box s n 0) h i (compared-bit f i ∙ m) (freed-same n i ∙ z) ∙ frame-same i m
 
-  same-match : (n : ℕ) → Matches s e n → isMatching s f n ≡ true
+  pub same-match : (n : ℕ) → Matches s e n → isMatching s f n ≡ true
   unfolding frameOf
   same-match n h =
       agrees-match (blockOf s) f n (box s n 0)
@@ -109,7 +109,7 @@ module _ (s e : List ℕ) where
         before = λ m l q r. false≢true (sym (p .none-before m l (compared-same m ∙ q)) ∙ same-match m r);
       }
 
-  first-one : (n m : ℕ) → First s e n → First s e m → n ≡ m
+  pub first-one : (n m : ℕ) → First s e n → First s e m → n ≡ m
   first-one n m p q = at (decLt n m) (decLt m n)
     where
       at : Dec (n < m) → Dec (m < n) → n ≡ m
@@ -120,7 +120,7 @@ module _ (s e : List ℕ) where
   pub missed : (c : ℕ) → Passed s f c → (n : ℕ) → First s e n → ⊥
   missed c p n q = false≢true (sym (p .none n (q .there) (compared-same n ∙ q .compares)) ∙ same-match n (q .matches))
 
-  count-same : (n : ℕ) → comparedBelow s f n ≡ countTo s e n
+  pub count-same : (n : ℕ) → comparedBelow s f n ≡ countTo s e n
   unfolding countBelow
   count-same zero = refl
   count-same (suc n) = rw (count-same n, compared-same n)

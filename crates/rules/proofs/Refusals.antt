@@ -185,6 +185,10 @@ module _ (e : List ℕ) (b : Bytes e) where
       each Fourth 11
       ((((((((((((tt, fourth 0 (no-data true false true) (register-bad (target e) (value e) (word-lt e b 4) ∙ pad4 _)), fourth 1 (no-data true true true) (word-bad (word e) (value e) ∙ pad3 _)), fourth 2 (quiet-same true false true _ (usesData 2 e) (data-bytes-le (rtr e) (target e)) (λ i l. refl)) (frame-bad e ∙ pad2 _)), fourth 3 (no-data false false false) refl), fourth 4 (no-data true false false) refl), fourth 5 (no-data false false true) (pad1 _)), fourth 6 (no-data false false false) refl), fourth 7 (no-data false false false) refl), fourth 8 (no-data false false true) (not-leb (value e) 3)), fourth 9 (no-data false false true) (not-leb (value e) 3)), fourth 10 (no-data false false false) refl))
 
+  -- of a frame
+  pub frame-refused : not (quietAs 2 e && allowedAs 2 e) ≡ (unused 2 e || bad 2 e)
+  frame-refused = fourths 2 (omega arith)
+
 -- ---- refusal 2
 
 module _ (e : List ℕ) where
