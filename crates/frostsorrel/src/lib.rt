@@ -1,5 +1,6 @@
 // The C entry points of the model.
 ghost use Rattle.rules.specs.Calls.{FreshCall, StepCall, ReadCall, CompareCall};
+ghost use Rattle.explain.specs.Explain.{ExplainCall};
 
 // uint64_t frostsorrel_fresh(uint8_t *image, size_t image_len)
 #[no_mangle]
@@ -32,4 +33,13 @@ pub extern "C" fn frostsorrel_compare(first: &[u8], second: &[u8], list: &mut [u
     ensures { λ r. ⌜ CompareCall (now (first .entry)) (now (second .entry)) (now (list .entry)) (now (list .exit)) r ⌝ }
 {
     compare::compare(first, second, list)
+}
+
+// uint64_t frostsorrel_explain(const uint8_t *image, size_t image_len, const uint8_t *event, size_t event_len,
+//                              uint8_t *list, size_t list_len)
+#[no_mangle]
+pub extern "C" fn frostsorrel_explain(image: &[u8], event: &[u8], list: &mut [u8]) -> u64
+    ensures { λ r. ⌜ ExplainCall (now (image .entry)) (now (event .entry)) (now (list .entry)) (now (list .exit)) r ⌝ }
+{
+    explain::explain(image, event, list)
 }

@@ -1,0 +1,175 @@
+-- The lines: those of the mailboxes below a number, their bytes, and where they end.
+use Prim.Native.Nat.{ℕ, zero, suc, _+_, _*_, _<_, _≤_}
+use mathlib.Core.Path.{_≡_, refl, sym, _∙_, ap, subst}
+use mathlib.Core.Bool.{Bool, true, false, cond}
+use mathlib.Core.List.{List, [], _∷_, _++_}
+use mathlib.Core.Logic.{_⊎_, inl, inr, ⊎-elim}
+use native.Mathlib.Decide.{ℕ-discrete}
+use native.Mathlib.Numerals.{add-one}
+use native.Mathlib.Omega.{arith}
+use lib.Dec.{ltb}
+use lib.ListN.{length, length-append}
+use borrow.Author.Tests.{lt-ltb, le-ltb}
+use Rattle.bits.specs.Below.{countBelow, firstBelow}
+use Rattle.answers.specs.Answer.{Fitted}
+use Rattle.texts.proofs.Parts.{parts-none, parts-one, parts-both, parts-length}
+use Rattle.registers.specs.Block.{blockOf}
+use Rattle.registers.specs.Status.{busOff}
+use Rattle.registers.specs.Modes.{onBus}
+use Rattle.events.specs.declared.Frame.{Frame}
+use Rattle.filter.specs.declared.Found.the-variants.{At, Missing}
+use Rattle.filter.specs.Filter.{hits, comparedBelow, found}
+use Rattle.rules.specs.Words.{among}
+use Rattle.explain.specs.declared.Reason.{Reason}
+use Rattle.explain.specs.declared.Reason.the-variants.{NotHeard}
+use Rattle.explain.specs.declared.Line.{Line}
+use Rattle.explain.specs.Explain.{number, linesBelow, isMatched, linesTo, lines, unheard, lineBytes, listBytes}
+use Rattle.explain.specs.Terms.{reasonBy, explainedBy}
+use Rattle.explain.specs.Agreement.{IsTold, comparisons}
+use Rattle.explain.proofs.Reasons.{matched-hits}
+
+-- ---- bytes
+
+pub text-none : listBytes [] ≡ []
+unfolding listBytes
+text-none = parts-none lineBytes
+
+pub text-one : (l : Line) → listBytes (l ∷ []) ≡ lineBytes l
+unfolding listBytes
+text-one = parts-one lineBytes
+
+text-both : (ls ms : List Line) → listBytes (ls ++ ms) ≡ listBytes ls ++ listBytes ms
+unfolding listBytes
+text-both = parts-both lineBytes
+
+-- 8 a line
+text-length : (ls : List Line) → length (listBytes ls) ≡ 8 * length ls
+unfolding listBytes
+text-length = parts-length lineBytes 8 (λ l. refl)
+
+-- the line of a frame that is not heard
+pub unheard-bytes : (mode : ℕ) (off : Bool) → listBytes (unheard mode off) ≡ lineBytes (record { mailbox = 32; reason = NotHeard (cond off 4 mode) })
+unheard-bytes mode off = text-one (record { mailbox = 32; reason = NotHeard (cond off 4 mode) })
+
+pub state-small : (off : Bool) (mode : ℕ) → mode ≤ 3 → cond off 4 mode < 256
+state-small true mode h = omega arith
+state-small false mode h = omega arith
+
+-- what is told of lines is told of the same lines
+pub same-fitted : {ls ms : List Line} {o x : List ℕ} {r : ℕ} → ls ≡ ms → Fitted (length ls) (listBytes ls) o x r → Fitted (length ms) (listBytes ms) o x r
+same-fitted {o = o} {x = x} {r = r} e = subst (λ (l : List Line). Fitted (length l) (listBytes l) o x r) e
+
+-- ---- the lines below a number
+
+module _ (r : ℕ → Reason) where
+  abbrev line : ℕ → Line
+  line n = record { mailbox = n; reason = r n }
+
+  -- one more
+  pub text-next : (k : ℕ) → listBytes (linesBelow r (k + 1)) ≡ listBytes (linesBelow r k) ++ lineBytes (line k)
+  unfolding linesBelow
+  text-next k =
+      ap (λ (n : ℕ). listBytes (linesBelow r n)) (add-one k)
+      ∙ text-both (linesBelow r k) (line k ∷ [])
+      ∙ ap (λ (t : List ℕ). listBytes (linesBelow r k) ++ t) (text-one (line k))
+
+  pub none-below : listBytes (linesBelow r 0) ≡ []
+  unfolding linesBelow
+  none-below = text-none
+
+  -- how many there are
+  pub below-length : (n : ℕ) → length (linesBelow r n) ≡ n
+  unfolding linesBelow
+  below-length zero = refl
+  below-length (suc n) = length-append (linesBelow r n) (line n ∷ []) ∙ omega (arith, below-length n)
+
+  pub below-bytes : (n : ℕ) → length (listBytes (linesBelow r n)) ≡ 8 * n
+  below-bytes n = text-length (linesBelow r n) ∙ ap (λ (k : ℕ). 8 * k) (below-length n)
+
+-- ---- where they end
+
+pub ends-at : (n : ℕ) → n < 32 → linesTo n ≡ n + 1
+ends-at n l = rw (lt-ltb n 32 l) (sym (add-one n))
+
+pub ends-last : (n : ℕ) → 32 ≤ n → linesTo n ≡ 32
+ends-last n l = rw (le-ltb n 32 l)
+
+-- at the mailbox that the search finds, or at the last
+module _ (s : List ℕ) (f : Frame) where
+  abbrev stop : ℕ
+  stop = firstBelow (hits s f) 32
+
+  same-stop : firstBelow (λ n. isMatched (reasonBy s f n)) 32 ≡ stop
+  same-stop = ap (λ (p : ℕ → Bool). firstBelow p 32) (λ i n. matched-hits s f n i)
+
+  pub found-ends : (n c : ℕ) → found s f ≡ At n c → linesTo (firstBelow (λ n. isMatched (reasonBy s f n)) 32) ≡ n + 1
+  unfolding found
+  found-ends n c h = ap linesTo same-stop ∙ at (ltb stop 32) h
+    where
+      at : (t : Bool) → cond t (At stop (comparedBelow s f (suc stop))) (Missing (comparedBelow s f 32)) ≡ At n c → cond t (suc stop) 32 ≡ n + 1
+      at true q = let e : stop ≡ n = cc in omega arith
+      at false q = let z : _≡_ {A = ℕ} 0 1 = cc in absurd (omega arith)
+
+  pub missing-ends : (c : ℕ) → found s f ≡ Missing c → linesTo (firstBelow (λ n. isMatched (reasonBy s f n)) 32) ≡ 32
+  unfolding found
+  missing-ends c h = ap linesTo same-stop ∙ at (ltb stop 32) h
+    where
+      at : (t : Bool) → cond t (At stop (comparedBelow s f (suc stop))) (Missing (comparedBelow s f 32)) ≡ Missing c → cond t (suc stop) 32 ≡ 32
+      at true q = let z : _≡_ {A = ℕ} 0 1 = cc in absurd (omega arith)
+      at false q = refl
+
+-- the lines of a frame, by whether it is heard
+module _ (s : List ℕ) (f : Frame) where
+  pub heard-lines : onBus (blockOf s) ≡ true → explainedBy s f ≡ lines (reasonBy s f)
+  heard-lines h = rw h
+
+  pub unheard-lines : onBus (blockOf s) ≡ false → explainedBy s f ≡ unheard (blockOf s .mode) (busOff (blockOf s))
+  unheard-lines h = rw h
+
+-- ---- what is told
+
+told-left : (n : ℕ) (why : Reason) (ls ms : List Line) → IsTold n why ls → IsTold n why (ls ++ ms)
+told-left n why [] ms h = absurd h
+told-left n why (l ∷ ls) ms (inl p) = inl p
+told-left n why (l ∷ ls) ms (inr h) = inr (told-left n why ls ms h)
+
+told-right : (n : ℕ) (why : Reason) (ls ms : List Line) → IsTold n why ms → IsTold n why (ls ++ ms)
+told-right n why [] ms h = h
+told-right n why (l ∷ ls) ms h = inr (told-right n why ls ms h)
+
+told-either : (n : ℕ) (why : Reason) (ls ms : List Line) → IsTold n why (ls ++ ms) → IsTold n why ls ⊎ IsTold n why ms
+told-either n why [] ms h = inr h
+told-either n why (l ∷ ls) ms (inl p) = inl (inl p)
+told-either n why (l ∷ ls) ms (inr h) = ⊎-elim (λ g. inl (inr g)) (λ g. inr g) (told-either n why ls ms h)
+
+module _ (r : ℕ → Reason) (n : ℕ) (why : Reason) where
+  -- a line below k is that of a mailbox below k, with its reason
+  pub is-below : (k : ℕ) → IsTold n why (linesBelow r k) → (n < k) × (r n ≡ why)
+  unfolding linesBelow
+  is-below zero h = absurd h
+  is-below (suc k) h =
+      ⊎-elim (λ g. let p = is-below k g in let l = p .0 in (omega arith, p .1))
+      (λ g. ⊎-elim (λ p. let e : k ≡ n = p .0 in (omega arith, ap r (sym e) ∙ p .1)) (λ z. absurd z) g)
+      (told-either n why (linesBelow r k) (record { mailbox = k; reason = r k } ∷ []) h)
+
+  pub below-is : (k : ℕ) → n < k → r n ≡ why → IsTold n why (linesBelow r k)
+  unfolding linesBelow
+  below-is zero l e = absurd (omega arith)
+  below-is (suc k) l e = at (ℕ-discrete n k) (λ m. below-is k m e)
+    where
+      at : Dec (n ≡ k) → (n < k → IsTold n why (linesBelow r k)) → IsTold n why (linesBelow r k ++ (record { mailbox = k; reason = r k } ∷ []))
+      at (yes q) go = told-right n why (linesBelow r k) (record { mailbox = k; reason = r k } ∷ []) (inl (sym q, ap r (sym q) ∙ e))
+      at (no d) go = told-left n why (linesBelow r k) (record { mailbox = k; reason = r k } ∷ []) (go (omega arith))
+
+-- ---- the lines of compared mailboxes
+
+comparisons-both : (ls ms : List Line) → comparisons (ls ++ ms) ≡ comparisons ls + comparisons ms
+unfolding comparisons
+comparisons-both [] ms = omega arith
+comparisons-both (l ∷ ls) ms = omega (arith, comparisons-both ls ms)
+
+pub comparisons-below : (r : ℕ → Reason) (n : ℕ) → comparisons (linesBelow r n) ≡ countBelow (λ k. among (number (r k)) (3 ∷ 4 ∷ 5 ∷ [])) n
+unfolding linesBelow comparisons countBelow
+comparisons-below r zero = refl
+comparisons-below r (suc n) =
+    comparisons-both (linesBelow r n) (record { mailbox = n; reason = r n } ∷ []) ∙ omega (arith, comparisons-below r n)

@@ -1,0 +1,4 @@
+-- Why a frame lands where it does.
+pub mod Explain
+pub mod Terms
+pub mod Agreement
