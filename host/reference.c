@@ -1,6 +1,6 @@
 /*
- * Document 01, and of document 02 the comparison of two images, the outcome for a missing acknowledgement
- * and DLC 9 to 15, in plain C. "D12" and the like are entries of docs/DECISIONS.md.
+ * Document 01, and of document 02 the comparison of two images, the outcome for a missing acknowledgement,
+ * DLC 9 to 15 and the explainer, in plain C. "D12" and the like are entries of docs/DECISIONS.md.
  */
 #include "reference.h"
 
@@ -200,6 +200,13 @@ struct event {
 #define WORD UINT64_C(0x0000000000FF0000)
 #define BYTE_3 UINT64_C(0x00000000FF000000)
 #define VALUE UINT64_C(0xFFFFFFFF00000000)
+
+static inline struct event event_at(const uint8_t *bytes)
+{
+    struct event e = {get_double(bytes), get_double(bytes + 8)};
+
+    return e;
+}
 
 static inline unsigned operation(struct event e)
 {
@@ -444,6 +451,12 @@ static bool allowed_frame(struct event e)
            stray_identifier(value(e)) == 0 && (e.data & ~carried(e)) == 0;
 }
 
+/* The bits that a frame is compared in, where no mask frees them. */
+static inline uint32_t compared_bits(uint32_t frame)
+{
+    return frame & IDE ? IDE | IDENTIFIER : IDE | BASE;
+}
+
 /* Where the search stops: a mailbox that matches, or 32; and how many were compared by then. */
 struct match {
     uint32_t mailbox, count;
@@ -452,7 +465,7 @@ struct match {
 static struct match search(const uint8_t *image, uint32_t frame)
 {
     uint32_t candidates = get(image, MC) & (frame & FRAME_RTR ? ~0u : get(image, MD));
-    uint32_t compared = frame & IDE ? IDE | IDENTIFIER : IDE | BASE;
+    uint32_t compared = compared_bits(frame);
     uint32_t under_gam = compared & ~get(image, GAM), under_lam = compared & ~get(image, LAM);
     struct match m = {NO_MAILBOX, 0};
 
@@ -745,8 +758,7 @@ uint64_t reference_step(uint8_t *image, size_t image_len, const uint8_t *event, 
         return refused(BAD_IMAGE);
     if (event_len != 16)
         return refused(UNKNOWN);
-    e.head = get_double(event);
-    e.data = get_double(event + 8);
+    e = event_at(event);
     switch (operation(e)) {
     case 0: return write_register(image, e);
     case 1: return write_mailbox(image, e);
@@ -835,6 +847,100 @@ uint64_t reference_compare(const uint8_t *first, size_t first_len, const uint8_t
     if (list_len < ENTRY_BYTES * count)
         return refused(NO_ROOM);
     memcpy(list, entries, ENTRY_BYTES * count);
+    return found(NO_MAILBOX, (uint32_t)count);
+}
+
+/* ---- explaining: a line is mailbox, reason, bit number and five zeros, here as one number */
+
+enum { DISABLED = 1, TRANSMITS, IDE_DIFFERS, BIT_DIFFERS, MATCHED, NOT_HEARD };
+enum { FRAME = 2, IN_BUS_OFF = 4 };
+
+#define LINE_BYTES 8
+
+static inline uint64_t line(uint32_t mailbox, uint32_t reason, uint32_t bit)
+{
+    return mailbox | reason << 8 | bit << 16;
+}
+
+static inline uint32_t reason_of(uint64_t one)
+{
+    return one >> 8 & 0xFF;
+}
+
+/* What the mailbox's mask frees; without GAME or LAME, nothing. */
+static inline uint32_t freed_bits(const uint8_t *image, uint32_t n)
+{
+    if (!(get(image, 4 * n) & MASKED))
+        return 0;
+    return get(image, n == 31 ? LAM : GAM);
+}
+
+/* IDE, and the bits of the identifier, that are compared, not freed, and differ. */
+static inline uint32_t differing_bits(const uint8_t *image, uint32_t n, uint32_t frame)
+{
+    return (get(image, 4 * n) ^ frame) & compared_bits(frame) & ~freed_bits(image, n);
+}
+
+static inline uint32_t highest_bit(uint32_t bits)
+{
+    return 31 - (uint32_t)__builtin_clz(bits);
+}
+
+/* The first reason that holds. */
+static uint64_t explain_mailbox(const uint8_t *image, uint32_t n, uint32_t frame)
+{
+    uint32_t differing = differing_bits(image, n, frame);
+
+    if (!(get(image, MC) >> n & 1))
+        return line(n, DISABLED, 0);
+    if (!(get(image, MD) >> n & 1) && !(frame & FRAME_RTR))
+        return line(n, TRANSMITS, 0);
+    if (differing & IDE)
+        return line(n, IDE_DIFFERS, 0);
+    if (differing)
+        return line(n, BIT_DIFFERS, highest_bit(differing));
+    return line(n, MATCHED, 0);
+}
+
+/* Of a frame that is heard: up to the mailbox that matches, or all. Answers how many lines. */
+static size_t explain_search(uint64_t *lines, const uint8_t *image, uint32_t frame)
+{
+    for (uint32_t n = 0; n < 32; n++) {
+        lines[n] = explain_mailbox(image, n, frame);
+        if (reason_of(lines[n]) == MATCHED)
+            return n + 1;
+    }
+    return 32;
+}
+
+/* WUBA would wake the model, and the frame is not heard all the same. */
+static uint64_t explain_silence(const uint8_t *image)
+{
+    return line(NO_MAILBOX, NOT_HEARD, get(image, TEC) == BUS_OFF ? IN_BUS_OFF : get(image, MODE));
+}
+
+/* A filled slot is not asked about. The lines are made apart, as the entries of a comparison are. */
+uint64_t reference_explain(const uint8_t *image, size_t image_len, const uint8_t *event, size_t event_len,
+                           uint8_t *list, size_t list_len)
+{
+    uint64_t lines[32];
+    size_t count = 1;
+    struct event e;
+
+    if (!good(image, image_len))
+        return refused(BAD_IMAGE);
+    if (event_len != 16 || event[0] != FRAME)
+        return refused(UNKNOWN);
+    e = event_at(event);
+    if (!allowed_frame(e))
+        return refused(NOT_ALLOWED);
+    if (on_bus(image))
+        count = explain_search(lines, image, value(e));
+    else
+        lines[0] = explain_silence(image);
+    if (list_len < LINE_BYTES * count)
+        return refused(NO_ROOM);
+    memcpy(list, lines, LINE_BYTES * count);
     return found(NO_MAILBOX, (uint32_t)count);
 }
 

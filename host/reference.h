@@ -1,9 +1,9 @@
 /*
- * A second implementation of document 01 and of requests a), b) and c) of document 02, in plain C, apart
- * from the proved one: it was written from these and docs/DECISIONS.md alone. The tests hold the two against
- * each other.
+ * A second implementation of document 01 and of requests a) to d) of document 02, in plain C, apart from the
+ * proved one: it was written from these and docs/DECISIONS.md alone. The tests hold the two against each
+ * other.
  *
- * The first four functions have the signatures and the answers of those in frostsorrel.h.
+ * The first five functions have the signatures and the answers of those in frostsorrel.h.
  */
 #ifndef REFERENCE_H
 #define REFERENCE_H
@@ -16,6 +16,8 @@ uint64_t reference_step(uint8_t *image, size_t image_len, const uint8_t *event, 
 uint64_t reference_read(const uint8_t *image, size_t image_len, uint32_t number);
 uint64_t reference_compare(const uint8_t *first, size_t first_len, const uint8_t *second,
                            size_t second_len, uint8_t *list, size_t list_len);
+uint64_t reference_explain(const uint8_t *image, size_t image_len, const uint8_t *event, size_t event_len,
+                           uint8_t *list, size_t list_len);
 
 #define LISTING_ROOM 39034 /* room for any listing (D80), and the 0 that C puts behind it */
 

@@ -28,6 +28,12 @@ uint64_t frostsorrel_compare(const uint8_t *first, size_t first_len, const uint8
     return reference_compare(first, first_len, second, second_len, list, list_len);
 }
 
+uint64_t frostsorrel_explain(const uint8_t *image, size_t image_len, const uint8_t *event, size_t event_len,
+                             uint8_t *list, size_t list_len)
+{
+    return reference_explain(image, image_len, event, event_len, list, list_len);
+}
+
 uint64_t frostsorrel_listing(const uint8_t *trace, size_t trace_len, uint8_t *text, size_t text_len)
 {
     static char listing[LISTING_ROOM]; /* with room for the 0 that C puts behind it */
