@@ -3,23 +3,12 @@
 #include "clauses.h"
 #include "frostsorrel.h"
 #include "image.h"
+#include "lists.h"
 
 #define ENTRY FROSTSORREL_ENTRY_BYTES
 #define MOST FROSTSORREL_DIFFERENCE_BYTES
-#define LONGEST_LIST (MOST + 100)
-#define LONGEST_IMAGE (BYTES + 1)
-#define GUARD 17 /* odd, so that nothing stands at an even address */
-
-/* Mailbox 32, and a count or a refusal. */
-#define ACCEPTED(count) (8192 + 65536 * (uint64_t)(count))
-#define REFUSED(refusal) (8192 + (uint64_t)(refusal))
 
 /* ---- calls that are checked */
-
-struct call {
-    const uint8_t *first, *second; /* one pointer twice is one image handed over twice */
-    size_t first_len, second_len, list_len;
-};
 
 static struct call of_images(const uint8_t *first, const uint8_t *second, size_t list_len)
 {
@@ -28,44 +17,10 @@ static struct call of_images(const uint8_t *first, const uint8_t *second, size_t
     return c;
 }
 
-/* What a call has to leave at the front of the caller's bytes. */
-struct list {
-    uint8_t bytes[MOST];
-    size_t len;
-};
-
-static const struct list nothing;
-
-/* Bytes are counted from the list's first: below 0 and past its length are the guards. */
-static void check_bytes(const char *what, const uint8_t *got, const uint8_t *expected, size_t size)
-{
-    size_t at = 0;
-
-    while (at < size - 1 && got[at] == expected[at])
-        at++;
-    check(got[at] == expected[at], "%s: byte %ld of the list is 0x%02X, not 0x%02X", what, (long)at - GUARD,
-          got[at], expected[at]);
-}
-
-/* The answer, every byte of the list and around it, and that the images stay. */
+/* The whole outcome; the images stay. */
 static void expect(const char *what, struct call c, uint64_t answer, const struct list *list)
 {
-    uint8_t first[LONGEST_IMAGE + GUARD], second[LONGEST_IMAGE + GUARD];
-    uint8_t got[LONGEST_LIST + 2 * GUARD], expected[sizeof got];
-    uint64_t said;
-
-    for (size_t i = 0; i < sizeof got; i++)
-        got[i] = expected[i] = (uint8_t)(37 * i + 11);
-    memcpy(expected + GUARD, list->bytes, list->len);
-    memcpy(first + GUARD, c.first, c.first_len);
-    memcpy(second + GUARD, c.second, c.second_len);
-    said = frostsorrel_compare(first + GUARD, c.first_len, (c.first == c.second ? first : second) + GUARD,
-                               c.second_len, got + GUARD, c.list_len);
-    check(said == answer, "%s: the answer is 0x%llX, not 0x%llX", what, (unsigned long long)said,
-          (unsigned long long)answer);
-    check_bytes(what, got, expected, sizeof got);
-    check(memcmp(first + GUARD, c.first, c.first_len) == 0, "%s: the first image changed", what);
-    check(memcmp(second + GUARD, c.second, c.second_len) == 0, "%s: the second image changed", what);
+    expect_call(what, frostsorrel_compare, c, answer, list);
 }
 
 static void expect_refusal(const char *what, struct call c, uint32_t refusal)
@@ -73,18 +28,11 @@ static void expect_refusal(const char *what, struct call c, uint32_t refusal)
     expect(what, c, REFUSED(refusal), &nothing);
 }
 
-/* A list that is not empty: exactly its room, a byte more, any list's; a byte less, an entry less, none. */
 static void expect_rooms(const char *what, const uint8_t *first, const uint8_t *second,
                          const struct list *list)
 {
-    uint64_t accepted = ACCEPTED(list->len / ENTRY);
-
-    expect(what, of_images(first, second, list->len), accepted, list);
-    expect(what, of_images(first, second, list->len + 1), accepted, list);
-    expect(what, of_images(first, second, MOST), accepted, list);
-    expect_refusal(what, of_images(first, second, list->len - 1), 9);
-    expect_refusal(what, of_images(first, second, list->len - ENTRY), 9);
-    expect_refusal(what, of_images(first, second, 0), 9);
+    expect_rooms_of(what, frostsorrel_compare, of_images(first, second, 0), list, ENTRY);
+    expect(what, of_images(first, second, MOST), ACCEPTED(list->len / ENTRY), list);
 }
 
 /* By the words of the request, for pairs that nobody wants to write out. */
@@ -379,11 +327,11 @@ static void test_bad_images(void)
 /* Two fresh images with a zero byte behind them, at every length but that of an image. */
 static void test_lengths(void)
 {
-    uint8_t first[LONGEST_IMAGE] = {0}, second[LONGEST_IMAGE] = {0};
+    uint8_t first[LONGEST_READ] = {0}, second[LONGEST_READ] = {0};
 
     put_fresh(first);
     put_fresh(second);
-    for (size_t len = 0; len <= LONGEST_IMAGE; len++) {
+    for (size_t len = 0; len <= LONGEST_READ; len++) {
         if (len == BYTES)
             continue;
         expect_bad("the first length", first, len, second, BYTES);
