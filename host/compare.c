@@ -6,10 +6,13 @@
  * word, and what a few events make of them; either with one clause broken; any bytes; other lengths.
  * Registers are read and models made fresh along the way, and pairs of images compared: equal ones, such
  * that differ in one word or in nearly all, two of a run, bad ones on either side, with too little room for
- * the list, just enough, and more. A line before the sum says how often outcome 3 was taken, and how often by a
- * model that was passive before it, since the two count TEC differently, and how often only REC made it so. Another
- * says how many frames with a DLC of 9 to 15 were stored, data and remote ones, and how many were refused for nothing
- * but a DLC above 15.
+ * the list, just enough, and more. Frames are explained, most of them such that a mailbox matches or just misses,
+ * in rooms of the same kinds; each explanation is held against what a step makes of the frame.
+ *
+ * A line before the sum says how often outcome 3 was taken, and how often by a model that was passive before it,
+ * since the two count TEC differently, and how often only REC made it so. Another says how many frames with a DLC of
+ * 9 to 15 were stored, data and remote ones, and how many were refused for nothing but a DLC above 15. The last ones
+ * say what the explanations have met.
  */
 #include <stdlib.h>
 
@@ -24,8 +27,8 @@
 #define ARENA (LONGEST_IMAGE + 2 * GUARD)
 #define LONGEST_LIST (2 * FROSTSORREL_DIFFERENCE_BYTES)
 #define LIST_ARENA (LONGEST_LIST + 2 * GUARD)
-#define MOST_EXPLAINED 3
-#define MOST_WORDS 20 /* of an image, in an explanation */
+#define MOST_SHOWN 3  /* disagreements of a kind */
+#define MOST_WORDS 20 /* of an image, in one of those */
 
 struct trial {
     uint8_t image[LONGEST_IMAGE], event[LONGEST_EVENT];
@@ -128,22 +131,27 @@ static void print_words(const char *what, const uint8_t *first, const uint8_t *s
         printf("    %s: and %d words more\n", what, differ - MOST_WORDS);
 }
 
-static void explain(struct trial t)
+static void print_trial(const uint8_t *image, size_t image_len, const uint8_t *event, size_t event_len)
+{
+    uint8_t fresh[BYTES];
+
+    printf("    image of %lu bytes, event of %lu:", (unsigned long)image_len, (unsigned long)event_len);
+    for (size_t i = 0; i < event_len; i++)
+        printf(" %02X", event[i]);
+    printf("\n");
+    put_fresh(fresh);
+    if (image_len == BYTES)
+        print_words("image, and fresh", image, fresh);
+}
+
+static void show(struct trial t)
 {
     struct result ours, theirs;
-    uint8_t fresh[BYTES];
 
     shrink(&t);
     ours = result_of(&t, frostsorrel_step);
     theirs = result_of(&t, reference_step);
-    printf("    image of %lu bytes, event of %lu:", (unsigned long)t.image_len,
-           (unsigned long)t.event_len);
-    for (size_t i = 0; i < t.event_len; i++)
-        printf(" %02X", t.event[i]);
-    printf("\n");
-    put_fresh(fresh);
-    if (t.image_len == BYTES)
-        print_words("image, and fresh", t.image, fresh);
+    print_trial(t.image, t.image_len, t.event, t.event_len);
     print_answer("library", ours.answer);
     print_answer("reference", theirs.answer);
     if (t.image_len == BYTES)
@@ -269,7 +277,7 @@ static void renew(void)
 
 static void compare_step(unsigned long number)
 {
-    static int explained;
+    static int shown;
     enum source source = draw_source();
     struct trial t;
     struct result ours, theirs;
@@ -278,8 +286,8 @@ static void compare_step(unsigned long number)
     ours = result_of(&t, frostsorrel_step);
     theirs = result_of(&t, reference_step);
     check(equal(&ours, &theirs), "step %lu: library and reference disagree", number);
-    if (!equal(&ours, &theirs) && explained++ < MOST_EXPLAINED)
-        explain(t);
+    if (!equal(&ours, &theirs) && shown++ < MOST_SHOWN)
+        show(t);
     count_unacknowledged(&t, ours.answer);
     count_dlc(&t, ours.answer);
     if (source == REACHED)
@@ -313,7 +321,7 @@ static void compare_fresh(unsigned long number)
     check(equal(&ours, &theirs), "step %lu: fresh of %lu bytes", number, (unsigned long)len);
 }
 
-/* ---- two images compared */
+/* ---- calls that are lent two things to read, and bytes for a list */
 
 struct pair {
     uint8_t first[LONGEST_IMAGE], second[LONGEST_IMAGE];
@@ -323,85 +331,73 @@ struct pair {
 };
 
 /* What one of the two made of a pair. */
-struct comparison {
+struct effect {
     uint8_t first[ARENA], second[ARENA], list[LIST_ARENA];
     uint64_t answer;
 };
 
-typedef uint64_t compare_function(const uint8_t *, size_t, const uint8_t *, size_t, uint8_t *, size_t);
+typedef uint64_t list_function(const uint8_t *, size_t, const uint8_t *, size_t, uint8_t *, size_t);
 
-static struct comparison comparison_of(const struct pair *p, compare_function *compare)
+/* What both do, each by a call of its own. */
+struct twins {
+    const char *what;
+    list_function *ours, *theirs;
+    size_t part, most; /* the bytes of an entry or a line, and the room for any list */
+    int shown;         /* disagreements */
+};
+
+static struct twins comparing = {"compare two images", frostsorrel_compare, reference_compare,
+                                 FROSTSORREL_ENTRY_BYTES, FROSTSORREL_DIFFERENCE_BYTES, 0};
+static struct twins explaining = {"explain a frame", frostsorrel_explain, reference_explain,
+                                  FROSTSORREL_LINE_BYTES, FROSTSORREL_EXPLANATION_BYTES, 0};
+
+static struct effect effect_of(const struct pair *p, list_function *function)
 {
-    struct comparison c;
+    struct effect e;
 
-    memset(c.first, 0xA5, ARENA);
-    memset(c.second, 0xA5, ARENA);
-    memcpy(c.first + GUARD, p->first, p->first_len);
-    memcpy(c.second + GUARD, p->second, p->second_len);
-    memcpy(c.list, p->list, LIST_ARENA);
-    c.answer = compare(c.first + GUARD, p->first_len, (p->one_image ? c.first : c.second) + GUARD,
-                       p->second_len, c.list + GUARD, p->list_len);
-    return c;
+    memset(e.first, 0xA5, ARENA);
+    memset(e.second, 0xA5, ARENA);
+    memcpy(e.first + GUARD, p->first, p->first_len);
+    memcpy(e.second + GUARD, p->second, p->second_len);
+    memcpy(e.list, p->list, LIST_ARENA);
+    e.answer = function(e.first + GUARD, p->first_len, (p->one_image ? e.first : e.second) + GUARD,
+                        p->second_len, e.list + GUARD, p->list_len);
+    return e;
 }
 
-static int equal_comparisons(const struct comparison *a, const struct comparison *b)
+static int equal_effects(const struct effect *a, const struct effect *b)
 {
     return a->answer == b->answer && memcmp(a->list, b->list, LIST_ARENA) == 0 &&
            memcmp(a->first, b->first, ARENA) == 0 && memcmp(a->second, b->second, ARENA) == 0;
 }
 
-static int compared_differently(const struct pair *p)
+static int differ(const struct pair *p, const struct twins *call)
 {
-    struct comparison ours = comparison_of(p, frostsorrel_compare);
-    struct comparison theirs = comparison_of(p, reference_compare);
+    struct effect ours = effect_of(p, call->ours), theirs = effect_of(p, call->theirs);
 
-    return !equal_comparisons(&ours, &theirs);
+    return !equal_effects(&ours, &theirs);
 }
 
-/* Kept where the two still disagree, in as much room or in that of one entry less. */
-static int try_word(struct pair *p, int word, uint32_t first, uint32_t second)
+/* A change stays where the two still disagree, in as much room or in that of one part less. Answers whether. */
+static int kept(struct pair *p, const struct pair *old, const struct twins *call)
 {
-    struct pair old = *p;
-
-    if (word_of(p->first, word) == first && word_of(p->second, word) == second)
-        return 0;
-    put(p->first, word, first);
-    put(p->second, word, second);
-    if (compared_differently(p))
+    if (differ(p, call))
         return 1;
-    p->list_len -= p->list_len < FROSTSORREL_ENTRY_BYTES ? 0 : FROSTSORREL_ENTRY_BYTES;
-    if (compared_differently(p))
+    p->list_len -= p->list_len < call->part ? 0 : call->part;
+    if (differ(p, call))
         return 1;
-    *p = old;
+    *p = *old;
     return 0;
 }
 
 /* One byte all over the list: what was written there can then be told from what stood there. */
-static void try_plain_list(struct pair *p)
+static void try_plain_list(struct pair *p, const struct twins *call)
 {
     struct pair old = *p;
 
     memset(p->list, 0xA5, LIST_ARENA);
-    if (!compared_differently(p))
+    if (!differ(p, call))
         *p = old;
-}
-
-/* Words as a fresh image has them in both, or else equal in both. */
-static void shrink_pair(struct pair *p)
-{
-    uint8_t fresh[BYTES];
-    int changed = p->first_len == BYTES && p->second_len == BYTES;
-
-    try_plain_list(p);
-    put_fresh(fresh);
-    while (changed) {
-        changed = 0;
-        for (int word = 0; word < WORDS; word++) {
-            uint32_t usual = word_of(fresh, word), first = word_of(p->first, word);
-
-            changed |= try_word(p, word, usual, usual) || try_word(p, word, first, first);
-        }
-    }
 }
 
 /* Bytes are counted from the first that was handed over: below 0 and past the length are the guards. */
@@ -416,26 +412,92 @@ static void print_first_byte(const char *what, const uint8_t *ours, const uint8_
                theirs[at]);
 }
 
-static void explain_pair(struct pair p)
+static void print_effects(const struct pair *p, const struct twins *call)
 {
-    struct comparison ours, theirs;
+    struct effect ours = effect_of(p, call->ours), theirs = effect_of(p, call->theirs);
+
+    printf("    a list of %lu bytes\n", (unsigned long)p->list_len);
+    print_answer("library", ours.answer);
+    print_answer("reference", theirs.answer);
+    print_first_byte("list", ours.list, theirs.list, LIST_ARENA);
+    print_first_byte("lent first", ours.first, theirs.first, ARENA);
+    print_first_byte("lent second", ours.second, theirs.second, ARENA);
+}
+
+typedef void show_function(struct pair p);
+
+/* Makes both calls, and answers what the library's did. */
+static struct effect effect_of_both(unsigned long number, const struct pair *p, struct twins *call,
+                                    show_function *show)
+{
+    struct effect ours = effect_of(p, call->ours), theirs = effect_of(p, call->theirs);
+    int same = equal_effects(&ours, &theirs);
+
+    check(same, "step %lu: library and reference %s differently", number, call->what);
+    if (!same && call->shown++ < MOST_SHOWN)
+        show(*p);
+    return ours;
+}
+
+/* Where the whole list has this many bytes: none, too few, just enough, more, and more than any list has. */
+static size_t draw_room(size_t whole, const struct twins *call)
+{
+    switch (draw(8)) {
+    case 0: return 0;
+    case 1: return draw((uint32_t)whole + 1);
+    case 2: return whole - (whole > 0);
+    case 3: return whole;
+    case 4: return whole + draw(2);
+    case 5: return whole + 1 + draw(2 * (uint32_t)call->part);
+    case 6: return call->most;
+    default: return LONGEST_LIST;
+    }
+}
+
+/* ---- two images compared */
+
+static int try_word(struct pair *p, int word, uint32_t first, uint32_t second)
+{
+    struct pair old = *p;
+
+    if (word_of(p->first, word) == first && word_of(p->second, word) == second)
+        return 0;
+    put(p->first, word, first);
+    put(p->second, word, second);
+    return kept(p, &old, &comparing);
+}
+
+/* Words as a fresh image has them in both, or else equal in both. */
+static void shrink_pair(struct pair *p)
+{
+    uint8_t fresh[BYTES];
+    int changed = p->first_len == BYTES && p->second_len == BYTES;
+
+    try_plain_list(p, &comparing);
+    put_fresh(fresh);
+    while (changed) {
+        changed = 0;
+        for (int word = 0; word < WORDS; word++) {
+            uint32_t usual = word_of(fresh, word), first = word_of(p->first, word);
+
+            changed |= try_word(p, word, usual, usual) || try_word(p, word, first, first);
+        }
+    }
+}
+
+static void show_pair(struct pair p)
+{
     uint8_t fresh[BYTES];
 
     shrink_pair(&p);
-    ours = comparison_of(&p, frostsorrel_compare);
-    theirs = comparison_of(&p, reference_compare);
-    printf("    %s of %lu and %lu bytes, a list of %lu\n", p.one_image ? "one image twice," : "images",
-           (unsigned long)p.first_len, (unsigned long)p.second_len, (unsigned long)p.list_len);
+    printf("    %s of %lu and %lu bytes\n", p.one_image ? "one image twice," : "images",
+           (unsigned long)p.first_len, (unsigned long)p.second_len);
     put_fresh(fresh);
     if (p.first_len == BYTES)
         print_words("first, and fresh", p.first, fresh);
     if (p.first_len == BYTES && p.second_len == BYTES)
         print_words("first, and second", p.first, p.second);
-    print_answer("library", ours.answer);
-    print_answer("reference", theirs.answer);
-    print_first_byte("list", ours.list, theirs.list, LIST_ARENA);
-    print_first_byte("first image", ours.first, theirs.first, ARENA);
-    print_first_byte("second image", ours.second, theirs.second, ARENA);
+    print_effects(&p, &comparing);
 }
 
 static int is_good(const uint8_t *image)
@@ -526,20 +588,6 @@ static void spoil_pair(struct pair *p)
     }
 }
 
-/* Where the whole list has this many bytes: none, too few, just enough, more, and more than any list has. */
-static size_t draw_room(size_t whole)
-{
-    switch (draw(8)) {
-    case 0: return 0;
-    case 1: return draw((uint32_t)whole + 1);
-    case 2: return whole - (whole > 0);
-    case 3: case 4: return whole;
-    case 5: return whole + 1 + draw(2 * FROSTSORREL_ENTRY_BYTES);
-    case 6: return FROSTSORREL_DIFFERENCE_BYTES;
-    default: return LONGEST_LIST;
-    }
-}
-
 static size_t list_bytes(const struct pair *p)
 {
     size_t bytes = 0;
@@ -558,7 +606,7 @@ static void draw_pair(struct pair *p)
     draw_good_pair(p->first, p->second);
     p->first_len = p->second_len = BYTES;
     spoil_pair(p);
-    p->list_len = draw_room(list_bytes(p));
+    p->list_len = draw_room(list_bytes(p), &comparing);
     p->one_image = p->first_len == p->second_len && memcmp(p->first, p->second, p->first_len) == 0 && draw(2);
 }
 
@@ -585,20 +633,350 @@ static int leads_over(const struct pair *p, const uint8_t *list, uint64_t count)
 
 static void compare_images(unsigned long number)
 {
-    static int explained;
     struct pair p;
-    struct comparison ours, theirs;
+    struct effect ours;
 
     draw_pair(&p);
-    ours = comparison_of(&p, frostsorrel_compare);
-    theirs = comparison_of(&p, reference_compare);
-    check(equal_comparisons(&ours, &theirs), "step %lu: library and reference compare two images differently",
-          number);
-    if (!equal_comparisons(&ours, &theirs) && explained++ < MOST_EXPLAINED)
-        explain_pair(p);
+    ours = effect_of_both(number, &p, &comparing, show_pair);
     if (frostsorrel_answer_refusal(ours.answer) == FROSTSORREL_ACCEPTED)
         check(leads_over(&p, ours.list + GUARD, frostsorrel_answer_count(ours.answer)),
               "step %lu: the list does not make the second image of the first", number);
+}
+
+/* ---- a frame explained: the first of a pair is the image, the second the event */
+
+/* What the whole explanation has, whatever the room; 0 where there is none. */
+static size_t line_bytes(const struct pair *p)
+{
+    uint8_t list[FROSTSORREL_EXPLANATION_BYTES];
+    uint64_t answer = reference_explain(p->first, p->first_len, p->second, p->second_len, list, sizeof list);
+
+    return FROSTSORREL_LINE_BYTES * (size_t)frostsorrel_answer_count(answer);
+}
+
+/* Answers the event's length. */
+static size_t draw_event(uint8_t *event, const uint8_t *image)
+{
+    size_t len = (draw(16) ? frame_near_a_mailbox : varied_event)(event, image);
+
+    return draw(16) ? len : draw(LONGEST_EVENT + 1);
+}
+
+static void draw_question(struct pair *p)
+{
+    draw_bytes(p->first, LONGEST_IMAGE);
+    draw_bytes(p->second, LONGEST_IMAGE);
+    draw_bytes(p->list, LIST_ARENA);
+    switch (draw(4)) {
+    case 0: memcpy(p->first, reached, BYTES); break;
+    case 1: memcpy(p->first, built, BYTES); break;
+    default: good_image(p->first);
+    }
+    p->second_len = draw_event(p->second, p->first);
+    p->first_len = draw(12) ? BYTES : make_bad(p->first);
+    p->list_len = draw_room(line_bytes(p), &explaining);
+    p->one_image = 0;
+}
+
+static int try_bytes(struct pair *p, uint8_t *at, const uint8_t *simpler, size_t len)
+{
+    struct pair old = *p;
+
+    if (memcmp(at, simpler, len) == 0)
+        return 0;
+    memcpy(at, simpler, len);
+    return kept(p, &old, &explaining);
+}
+
+/* Words as a fresh image has them, and zeros in the event. */
+static void shrink_question(struct pair *p)
+{
+    static const uint8_t zero;
+    uint8_t fresh[BYTES];
+    int changed = 1;
+
+    try_plain_list(p, &explaining);
+    put_fresh(fresh);
+    while (changed) {
+        changed = 0;
+        for (size_t i = 0; p->first_len == BYTES && i < BYTES; i += 4)
+            changed |= try_bytes(p, p->first + i, fresh + i, 4);
+        for (size_t i = 0; i < p->second_len; i++)
+            changed |= try_bytes(p, p->second + i, &zero, 1);
+    }
+}
+
+static void show_question(struct pair p)
+{
+    shrink_question(&p);
+    print_trial(p.first, p.first_len, p.second, p.second_len);
+    print_effects(&p, &explaining);
+}
+
+/* ---- what a step makes of an explained frame */
+
+/* The mailbox of the line that says matched, 32 where none does. */
+static uint32_t matched_mailbox(const uint8_t *list, uint64_t count)
+{
+    for (size_t i = 0; i < count; i++)
+        if (frostsorrel_line_reason(list, i) == FROSTSORREL_MATCHED)
+            return frostsorrel_line_mailbox(list, i);
+    return FROSTSORREL_NO_MAILBOX;
+}
+
+/* How many lines are of mailboxes that a step counts. */
+static uint64_t compared_lines(const uint8_t *list, uint64_t count)
+{
+    uint64_t compared = 0;
+
+    for (size_t i = 0; i < count; i++) {
+        uint32_t reason = frostsorrel_line_reason(list, i);
+
+        compared += reason == FROSTSORREL_IDE_DIFFERS || reason == FROSTSORREL_BIT_DIFFERS ||
+                    reason == FROSTSORREL_MATCHED;
+    }
+    return compared;
+}
+
+/* Nothing in the slot, so that the step is not busy. */
+static void empty_slot(uint8_t *image)
+{
+    put(image, SLOT, EMPTY_SLOT);
+    put(image, TRR, 0);
+    put(image, WAITING, NO_MODE);
+}
+
+/* Every mailbox that matches is named then. */
+static void let_all_reply(uint8_t *image)
+{
+    for (int n = 0; n < FROSTSORREL_MAILBOXES; n++)
+        put(image, MAILBOX(n, 0), word_of(image, MAILBOX(n, 0)) | RFH);
+}
+
+static int is_silent(const uint8_t *image, uint32_t n)
+{
+    return n < FROSTSORREL_MAILBOXES && !(word_of(image, MD) >> n & 1) &&
+           !(word_of(image, MAILBOX((int)n, 0)) & RFH);
+}
+
+static uint64_t packed(uint32_t mailbox, uint64_t count)
+{
+    return 256 * (uint64_t)mailbox + 65536 * count;
+}
+
+/*
+ * The lines of a heard frame against two steps. Where all reply, a step names the mailbox in which the search
+ * stops; with the mailboxes as they are, it does not name a transmit mailbox with RFH 0.
+ */
+static int agrees_with_step(const struct pair *p, const uint8_t *list, uint64_t count)
+{
+    uint8_t image[BYTES], replying[BYTES];
+    uint32_t stop, named;
+    uint64_t compared;
+
+    if (count > p->list_len / FROSTSORREL_LINE_BYTES)
+        return 0;
+    memcpy(image, p->first, BYTES);
+    empty_slot(image);
+    memcpy(replying, image, BYTES);
+    let_all_reply(replying);
+    stop = matched_mailbox(list, count);
+    named = is_silent(image, stop) ? FROSTSORREL_NO_MAILBOX : stop;
+    compared = compared_lines(list, count);
+    return frostsorrel_step(image, BYTES, p->second, EVENT_BYTES) == packed(named, compared) &&
+           frostsorrel_step(replying, BYTES, p->second, EVENT_BYTES) == packed(stop, compared);
+}
+
+static int is_heard(const uint8_t *image)
+{
+    return word_of(image, MODE) == NORMAL_MODE && word_of(image, TEC) != BUS_OFF_TEC;
+}
+
+/* ---- what explanations have met: all of it, in a long run */
+
+enum met {
+    A_DISABLED, A_TRANSMITS, AN_IDE, A_BIT, A_MATCHED, A_NOT_HEARD, /* in the order of the reasons */
+    IN_CONFIGURATION, IN_SLEEP, IN_SLEEP_WUBA, IN_SUSPEND, IN_BUS_OFF,
+    STANDARD_DATA, STANDARD_REMOTE, EXTENDED_DATA, EXTENDED_REMOTE, SLOT_FILLED,
+    RECEIVES, REPLIES, SILENT, NOWHERE,
+    FREED_IDE, FREED_BIT, FREED_BY_LAM, LOW_NOT_COMPARED, BELOW_FREED, LOWER_TOO,
+    FIRST_OF_1_2, FIRST_OF_2_3, FIRST_OF_3_4,
+    FITS, BYTE_MORE, BYTE_SHORT, NO_BYTE,
+    REFUSED_LENGTH, REFUSED_IMAGE, REFUSED_BOTH, REFUSED_EVENT_LENGTH, REFUSED_OPERATION, REFUSED_FRAME
+};
+
+static struct tally {
+    const char *kind, *what;
+    unsigned long times;
+} tallies[] = {
+    [A_DISABLED] = {"lines", "disabled", 0},
+    [A_TRANSMITS] = {"lines", "transmits", 0},
+    [AN_IDE] = {"lines", "IDE differs", 0},
+    [A_BIT] = {"lines", "bit differs", 0},
+    [A_MATCHED] = {"lines", "matched", 0},
+    [A_NOT_HEARD] = {"lines", "not heard", 0},
+    [IN_CONFIGURATION] = {"not heard", "in configuration", 0},
+    [IN_SLEEP] = {"not heard", "asleep", 0},
+    [IN_SLEEP_WUBA] = {"not heard", "asleep with WUBA", 0},
+    [IN_SUSPEND] = {"not heard", "in suspend", 0},
+    [IN_BUS_OFF] = {"not heard", "in bus off", 0},
+    [STANDARD_DATA] = {"heard", "standard data", 0},
+    [STANDARD_REMOTE] = {"heard", "standard remote", 0},
+    [EXTENDED_DATA] = {"heard", "extended data", 0},
+    [EXTENDED_REMOTE] = {"heard", "extended remote", 0},
+    [SLOT_FILLED] = {"heard", "with a filled slot", 0},
+    [RECEIVES] = {"matched", "that receive", 0},
+    [REPLIES] = {"matched", "that reply", 0},
+    [SILENT] = {"matched", "with RFH 0", 0},
+    [NOWHERE] = {"matched", "times none", 0},
+    [FREED_IDE] = {"matched by a mask", "IDE differs", 0},
+    [FREED_BIT] = {"matched by a mask", "bits differ", 0},
+    [FREED_BY_LAM] = {"matched by a mask", "in mailbox 31", 0},
+    [LOW_NOT_COMPARED] = {"matched by a mask", "have low bits that a standard frame has not", 0},
+    [BELOW_FREED] = {"bits", "below one that is freed", 0},
+    [LOWER_TOO] = {"bits", "above another", 0},
+    [FIRST_OF_1_2] = {"first reasons", "disabled, and transmits", 0},
+    [FIRST_OF_2_3] = {"first reasons", "transmits, and IDE differs", 0},
+    [FIRST_OF_3_4] = {"first reasons", "IDE differs, and a bit", 0},
+    [FITS] = {"room", "just enough", 0},
+    [BYTE_MORE] = {"room", "a byte more", 0},
+    [BYTE_SHORT] = {"room", "a byte short", 0},
+    [NO_BYTE] = {"room", "none", 0},
+    [REFUSED_LENGTH] = {"refused", "for the image's length", 0},
+    [REFUSED_IMAGE] = {"refused", "for its words", 0},
+    [REFUSED_BOTH] = {"refused", "of these with no frame either", 0},
+    [REFUSED_EVENT_LENGTH] = {"refused", "for the event's length", 0},
+    [REFUSED_OPERATION] = {"refused", "for its operation", 0},
+    [REFUSED_FRAME] = {"refused", "for the frame", 0},
+};
+#define TALLIES (sizeof tallies / sizeof tallies[0])
+
+static void met(enum met what, int holds)
+{
+    tallies[what].times += holds != 0;
+}
+
+static void count_silence(const uint8_t *image)
+{
+    uint32_t mode = word_of(image, MODE), wuba = word_of(image, OPTIONS) & FROSTSORREL_WUBA;
+
+    met(IN_CONFIGURATION, mode == CONFIGURATION);
+    met(IN_SLEEP, mode == SLEEP && !wuba);
+    met(IN_SLEEP_WUBA, mode == SLEEP && wuba);
+    met(IN_SUSPEND, mode == SUSPEND);
+    met(IN_BUS_OFF, mode == NORMAL_MODE);
+}
+
+/* Of a mailbox: what differs by the frame's own measure, before any mask. */
+static void count_line(const uint8_t *image, uint32_t frame, const uint8_t *list, size_t i)
+{
+    uint32_t n = frostsorrel_line_mailbox(list, i), reason = frostsorrel_line_reason(list, i);
+    uint32_t own = word_of(image, MAILBOX((int)n, 0)), ide = (own ^ frame) & FROSTSORREL_IDE;
+    uint32_t low = frame & FROSTSORREL_IDE ? 0 : 0x3FFFF;
+    uint32_t bits = (own ^ frame) & FROSTSORREL_IDENTIFIER_BITS & ~low, bit = 1u << frostsorrel_line_bit(list, i);
+    int faces_data = !(word_of(image, MD) >> n & 1) && !(frame & FROSTSORREL_FRAME_RTR);
+    int matched = reason == FROSTSORREL_MATCHED, differs = reason == FROSTSORREL_BIT_DIFFERS;
+
+    met(FREED_IDE, matched && ide);
+    met(FREED_BIT, matched && bits);
+    met(FREED_BY_LAM, matched && (ide | bits) && n == 31);
+    met(LOW_NOT_COMPARED, matched && own & low);
+    met(BELOW_FREED, differs && bits > 2 * bit - 1);
+    met(LOWER_TOO, differs && bits & (bit - 1));
+    met(FIRST_OF_1_2, reason == FROSTSORREL_DISABLED && faces_data);
+    met(FIRST_OF_2_3, reason == FROSTSORREL_TRANSMITS && ide);
+    met(FIRST_OF_3_4, reason == FROSTSORREL_IDE_DIFFERS && bits);
+}
+
+static void count_search(const uint8_t *image, uint32_t frame, const uint8_t *list, uint64_t count)
+{
+    uint32_t stop = matched_mailbox(list, count);
+    int matched = stop < FROSTSORREL_MAILBOXES, receives = matched && word_of(image, MD) >> stop & 1;
+
+    met(frame & FROSTSORREL_IDE ? EXTENDED_DATA : STANDARD_DATA, !(frame & FROSTSORREL_FRAME_RTR));
+    met(frame & FROSTSORREL_IDE ? EXTENDED_REMOTE : STANDARD_REMOTE, (frame & FROSTSORREL_FRAME_RTR) != 0);
+    met(SLOT_FILLED, word_of(image, SLOT) != EMPTY_SLOT);
+    met(RECEIVES, receives);
+    met(REPLIES, matched && !receives && !is_silent(image, stop));
+    met(SILENT, is_silent(image, stop));
+    met(NOWHERE, !matched);
+    for (size_t i = 0; i < count; i++)
+        count_line(image, frame, list, i);
+}
+
+static void count_rooms(const struct pair *p, uint32_t refusal)
+{
+    size_t whole = line_bytes(p);
+
+    met(FITS, refusal == FROSTSORREL_ACCEPTED && p->list_len == whole);
+    met(BYTE_MORE, refusal == FROSTSORREL_ACCEPTED && p->list_len == whole + 1);
+    met(BYTE_SHORT, refusal == FROSTSORREL_NO_ROOM && p->list_len == whole - 1);
+    met(NO_BYTE, refusal == FROSTSORREL_NO_ROOM && p->list_len == 0);
+}
+
+static int is_frame(const struct pair *p)
+{
+    return p->second_len == EVENT_BYTES && p->second[0] == FROSTSORREL_FRAME;
+}
+
+static void count_refusals(const struct pair *p, uint32_t refusal)
+{
+    met(REFUSED_LENGTH, refusal == FROSTSORREL_BAD_IMAGE && p->first_len != BYTES);
+    met(REFUSED_IMAGE, refusal == FROSTSORREL_BAD_IMAGE && p->first_len == BYTES);
+    met(REFUSED_BOTH, refusal == FROSTSORREL_BAD_IMAGE && !is_frame(p));
+    met(REFUSED_EVENT_LENGTH, refusal == FROSTSORREL_UNKNOWN && p->second_len != EVENT_BYTES);
+    met(REFUSED_OPERATION, refusal == FROSTSORREL_UNKNOWN && p->second_len == EVENT_BYTES);
+    met(REFUSED_FRAME, refusal == FROSTSORREL_NOT_ALLOWED);
+}
+
+/* By the lines of the reference, which have no other reasons. */
+static void count_explanation(const struct pair *p)
+{
+    struct effect e = effect_of(p, reference_explain);
+    uint64_t count = frostsorrel_answer_count(e.answer);
+    uint32_t refusal = frostsorrel_answer_refusal(e.answer);
+    const uint8_t *list = e.list + GUARD;
+
+    count_rooms(p, refusal);
+    count_refusals(p, refusal);
+    for (size_t i = 0; i < count; i++)
+        tallies[A_DISABLED + frostsorrel_line_reason(list, i) - FROSTSORREL_DISABLED].times++;
+    if (refusal != FROSTSORREL_ACCEPTED)
+        return;
+    if (is_heard(p->first))
+        count_search(p->first, frostsorrel_event_value(p->second), list, count);
+    else
+        count_silence(p->first);
+}
+
+static void check_explanations(unsigned long steps)
+{
+    for (size_t i = 0; i < TALLIES; i++) {
+        const struct tally *t = &tallies[i];
+
+        if (i == 0 || strcmp(t->kind, t[-1].kind) != 0)
+            printf("%sexplain, %s:", i == 0 ? "" : "\n", t->kind);
+        else
+            printf(";");
+        printf(" %lu %s", t->times, t->what);
+    }
+    printf("\n");
+    for (size_t i = 0; i < TALLIES; i++)
+        check(steps < LONG_ENOUGH || tallies[i].times > 0, "explain, %s: %s was not met", tallies[i].kind,
+              tallies[i].what);
+}
+
+static void explain_frame(unsigned long number)
+{
+    struct pair p;
+    struct effect ours;
+
+    draw_question(&p);
+    ours = effect_of_both(number, &p, &explaining, show_question);
+    if (frostsorrel_answer_refusal(ours.answer) == FROSTSORREL_ACCEPTED && is_heard(p.first))
+        check(agrees_with_step(&p, ours.list + GUARD, frostsorrel_answer_count(ours.answer)),
+              "step %lu: explanation and step of a frame do not agree", number);
+    count_explanation(&p);
 }
 
 static unsigned long argument(int argc, char **argv, int at, unsigned long usual)
@@ -623,9 +1001,12 @@ int main(int argc, char **argv)
             compare_fresh(number);
         if (draw(4) == 0)
             compare_images(number);
+        if (draw(2) == 0)
+            explain_frame(number);
     }
     check_unacknowledged(steps);
     check_dlc(steps);
+    check_explanations(steps);
     snprintf(name, sizeof name, "host compare, %lu steps, seed %lu", steps, seed);
     return report(name);
 }

@@ -354,6 +354,48 @@ size_t varied_event(uint8_t *event, const uint8_t *image)
     return damaged_at_times(event, event_of_any_operation(image));
 }
 
+/* An enabled one, most of the time. */
+static int likely_mailbox(const uint8_t *image)
+{
+    uint32_t enabled = word_of(image, MC), n = one_in(4) ? 31 : draw(32);
+
+    for (int tries = 0; tries < 4 && !(enabled >> n & 1); tries++)
+        n = draw(32);
+    return (int)n;
+}
+
+/* Identifier and IDE as one of the mailboxes has them, with some bits turned round. */
+static uint32_t near_identifier(const uint8_t *image)
+{
+    int n = likely_mailbox(image);
+    uint32_t own = word_of(image, MAILBOX(n, 0)), freed = word_of(image, n == 31 ? LAM : GAM);
+    uint32_t bits = 0;
+
+    switch (draw(6)) {
+    case 0: break;
+    case 1: bits = 1u << draw(29); break;
+    case 2: bits = any_flags(); break;
+    case 3: bits = FROSTSORREL_IDE; break;
+    case 4: bits = freed; break;
+    default: bits = freed ^ 1u << draw(29);
+    }
+    own = (own ^ bits) & (FROSTSORREL_IDE | FROSTSORREL_IDENTIFIER_BITS);
+    return own & FROSTSORREL_IDE ? own : STANDARD(own >> 18);
+}
+
+static struct event near_frame(const uint8_t *image)
+{
+    struct event e = any_frame();
+
+    put(e.bytes, 1, near_identifier(image) | (word_of(e.bytes, 1) & FROSTSORREL_FRAME_RTR));
+    return e;
+}
+
+size_t frame_near_a_mailbox(uint8_t *event, const uint8_t *image)
+{
+    return damaged_at_times(event, one_in(16) ? bad_frame() : near_frame(image));
+}
+
 /* ---- images */
 
 static void put_flags(uint8_t *image)

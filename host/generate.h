@@ -27,6 +27,13 @@ size_t likely_event(uint8_t *event, const uint8_t *image);
  */
 size_t varied_event(uint8_t *event, const uint8_t *image);
 
+/*
+ * A frame that a mailbox of the image matches or just misses: IDE and identifier are as the mailbox has them, or
+ * with a bit, some bits, IDE or what the mask may free turned round. Some are not allowed, and one in ten is
+ * damaged. Answers its length.
+ */
+size_t frame_near_a_mailbox(uint8_t *event, const uint8_t *image);
+
 /* A good image, built word by word. */
 void good_image(uint8_t *image);
 
