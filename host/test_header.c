@@ -47,6 +47,9 @@ static void sizes(void)
     same_number("an entry", FROSTSORREL_ENTRY_BYTES, 4 + 4 + 4);
     same_number("room for any list of differences", FROSTSORREL_DIFFERENCE_BYTES,
                 FROSTSORREL_ENTRY_BYTES * FROSTSORREL_IMAGE_WORDS);
+    same_number("a line", FROSTSORREL_LINE_BYTES, 1 + 1 + 1 + 5);
+    same_number("room for any explanation", FROSTSORREL_EXPLANATION_BYTES,
+                FROSTSORREL_LINE_BYTES * FROSTSORREL_MAILBOXES);
     same_number("the data bytes of a mailbox", FROSTSORREL_MOST_DATA_BYTES, 2 * 4);
     same_number("those of an event", FROSTSORREL_MOST_DATA_BYTES, FROSTSORREL_EVENT_BYTES - 8);
     same_number("the highest DLC", FROSTSORREL_HIGHEST_DLC, 15);
@@ -202,6 +205,40 @@ static void entries(void)
     same_number("its second content", frostsorrel_entry_second(list, 1), 1);
 }
 
+/* ---- three lines of explanations, by hand: a bit of mailbox 3, mailbox 31 matched, not heard in bus off */
+
+static void lines(void)
+{
+    static const uint8_t list[] = {
+        3,  4, 28, 0, 0, 0, 0, 0,
+        31, 5, 0,  0, 0, 0, 0, 0,
+        32, 6, 4,  0, 0, 0, 0, 0,
+    };
+
+    same_number("the mailbox of line 0", frostsorrel_line_mailbox(list, 0), 3);
+    same_number("its reason", frostsorrel_line_reason(list, 0), FROSTSORREL_BIT_DIFFERS);
+    same_number("its bit", frostsorrel_line_bit(list, 0), 28);
+    same_number("the mailbox of line 1", frostsorrel_line_mailbox(list, 1), 31);
+    same_number("its reason", frostsorrel_line_reason(list, 1), FROSTSORREL_MATCHED);
+    same_number("its bit", frostsorrel_line_bit(list, 1), 0);
+    same_number("the mailbox of line 2", frostsorrel_line_mailbox(list, 2), FROSTSORREL_NO_MAILBOX);
+    same_number("its reason", frostsorrel_line_reason(list, 2), FROSTSORREL_NOT_HEARD);
+    same_number("its mode", frostsorrel_line_bit(list, 2), FROSTSORREL_IN_BUS_OFF);
+}
+
+/* By the numbers of document 02; no mode has the number that says bus off. */
+static void reasons(void)
+{
+    same_number("disabled", FROSTSORREL_DISABLED, 1);
+    same_number("transmits", FROSTSORREL_TRANSMITS, 2);
+    same_number("IDE differs", FROSTSORREL_IDE_DIFFERS, 3);
+    same_number("bit differs", FROSTSORREL_BIT_DIFFERS, 4);
+    same_number("matched", FROSTSORREL_MATCHED, 5);
+    same_number("not heard", FROSTSORREL_NOT_HEARD, 6);
+    same_number("in bus off", FROSTSORREL_IN_BUS_OFF, 4);
+    same_number("the last mode", FROSTSORREL_SUSPEND, 3);
+}
+
 static void answers(void)
 {
     same_number("the refusal", frostsorrel_answer_refusal(0x200507), 7);
@@ -209,6 +246,7 @@ static void answers(void)
     same_number("the count", frostsorrel_answer_count(0x200507), 0x20);
     same_number("no room", frostsorrel_answer_refusal(0x2009), FROSTSORREL_NO_ROOM);
     same_number("a list of 155 entries", frostsorrel_answer_count(0x9B2000), 155);
+    same_number("an explanation of 32 lines", frostsorrel_answer_count(0x202000), 32);
     same_number("a read's value", frostsorrel_read_value(0x2FFFFFFFFu), 0xFFFFFFFF);
     same_number("a read's refusal", frostsorrel_read_refusal(0x2FFFFFFFFu), 2);
 }
@@ -257,6 +295,8 @@ static void names(void)
                                              "options", "reset"};
     static const char *const outcomes[] = {"sent", "arbitration lost", "error", "no acknowledgement"};
     static const char *const modes[] = {"normal", "configuration", "sleep", "suspend", "none"};
+    static const char *const reason_names[] = {"no name",     "disabled", "transmits", "IDE differs",
+                                               "bit differs", "matched",  "not heard"};
     static const char *const refusals[] = {"accepted", "bad image", "unknown", "asleep", "not allowed",
                                            "busy", "locked", "slot empty", "bad trace", "no room"};
     static const char *const in_reason[] = {"taken", "the image is not", "there is no such", "while the model sleeps",
@@ -267,6 +307,7 @@ static void names(void)
     names_are("operation", frostsorrel_operation_name, operations, COUNT(operations));
     names_are("outcome", frostsorrel_outcome_name, outcomes, COUNT(outcomes));
     names_are("mode", frostsorrel_mode_name, modes, COUNT(modes));
+    names_are("reason", frostsorrel_reason_name, reason_names, COUNT(reason_names));
     names_are("refusal", frostsorrel_refusal_name, refusals, COUNT(refusals));
     for (uint32_t refusal = 0; refusal < COUNT(refusals); refusal++)
         check(strstr(frostsorrel_refusal_reason(refusal), in_reason[refusal]) != 0, "refusal %lu has the reason %s",
@@ -310,6 +351,8 @@ int main(int argc, char **argv)
     words();
     data_bytes();
     entries();
+    lines();
+    reasons();
     answers();
     bits();
     names();
