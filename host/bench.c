@@ -1,10 +1,10 @@
 /*
  * The speed of the library beside that of the plain C: bench [ROUNDS [SEED]].
  *
- * A stream is many runs, each an image and the events that follow, or many pairs of images to compare. All
- * of it is drawn before the clock starts, and both sides get the same. A round lets each side go through the
- * whole stream; the best round counts. Answers, images and lists must come out equal, so that no wrong work
- * is measured.
+ * A stream is many runs, each an image and the events that follow, or many pairs: of images to compare, or of
+ * an image and a frame to explain. All of it is drawn before the clock starts, and both sides get the same. A
+ * round lets each side go through the whole stream; the best round counts. Answers, images and lists must come
+ * out equal, so that no wrong work is measured.
  */
 #include <stdlib.h>
 #include <time.h>
@@ -18,7 +18,7 @@
 #define RUNS 64
 #define LENGTH 512 /* events in a run */
 #define STEPS (RUNS * LENGTH)
-#define PAIRS 512 /* of images; a round compares each of them STEPS / PAIRS times */
+#define PAIRS 512 /* a round takes each of them STEPS / PAIRS times */
 #define MOST_ROUNDS 1000
 
 struct stream {
@@ -34,19 +34,21 @@ struct side {
     double best; /* nanoseconds a step */
 };
 
+/* Two images, or an image and a frame: all the second ones of a stream have one length. */
 struct pairs {
     uint8_t first[PAIRS][BYTES], second[PAIRS][BYTES];
+    size_t second_len;
 };
 
 /* What a side makes of the pairs. */
 struct lists {
     uint8_t lists[PAIRS][FROSTSORREL_DIFFERENCE_BYTES];
     uint64_t answers[PAIRS];
-    double best; /* nanoseconds a comparison */
+    double best; /* nanoseconds a call */
 };
 
 typedef uint64_t step_function(uint8_t *, size_t, const uint8_t *, size_t);
-typedef uint64_t compare_function(const uint8_t *, size_t, const uint8_t *, size_t, uint8_t *, size_t);
+typedef uint64_t list_function(const uint8_t *, size_t, const uint8_t *, size_t, uint8_t *, size_t);
 typedef void image_function(uint8_t *image);
 typedef size_t event_function(uint8_t *event, const uint8_t *image);
 typedef void pairs_function(struct pairs *p);
@@ -151,6 +153,7 @@ static void draw_neighbours(struct pairs *p)
 {
     uint8_t image[BYTES], event[LONGEST_EVENT];
 
+    p->second_len = BYTES;
     for (size_t i = 0; i < PAIRS; i++) {
         size_t len;
 
@@ -166,9 +169,20 @@ static void draw_neighbours(struct pairs *p)
 /* Good images that have nothing to do with each other: nearly all words differ. */
 static void draw_strangers(struct pairs *p)
 {
+    p->second_len = BYTES;
     for (size_t i = 0; i < PAIRS; i++) {
         good_image(p->first[i]);
         good_image(p->second[i]);
+    }
+}
+
+/* An image and a frame of the frame-heavy stream: most explanations are long. */
+static void draw_questions(struct pairs *p)
+{
+    p->second_len = EVENT_BYTES;
+    for (size_t i = 0; i < PAIRS; i++) {
+        receiving_image(p->first[i]);
+        frame(p->second[i], p->first[i]);
     }
 }
 
@@ -235,23 +249,23 @@ static double measure(const char *name, image_function *first, event_function *n
     return print_ratio(name, ours.best, theirs.best);
 }
 
-static void compare_pairs(const struct pairs *p, struct lists *l, compare_function *compare)
+static void take_pairs(const struct pairs *p, struct lists *l, list_function *call)
 {
     for (size_t i = 0; i < STEPS; i++) {
         size_t pair = i % PAIRS;
 
-        l->answers[pair] = compare(p->first[pair], BYTES, p->second[pair], BYTES, l->lists[pair],
-                                   FROSTSORREL_DIFFERENCE_BYTES);
+        l->answers[pair] = call(p->first[pair], BYTES, p->second[pair], p->second_len, l->lists[pair],
+                                FROSTSORREL_DIFFERENCE_BYTES);
     }
 }
 
-static void time_comparisons(const struct pairs *p, struct lists *l, compare_function *compare)
+static void time_pairs(const struct pairs *p, struct lists *l, list_function *call)
 {
     double began;
 
     memset(l->lists, 0xA5, sizeof l->lists);
     began = seconds();
-    compare_pairs(p, l, compare);
+    take_pairs(p, l, call);
     keep_best(&l->best, began);
 }
 
@@ -263,8 +277,9 @@ static void check_lists(const char *name, const struct lists *ours, const struct
           "%s: library and plain C leave different lists", name);
 }
 
-/* The same for pairs of images. */
-static double measure_pairs(const char *name, pairs_function *draw_pairs, unsigned long rounds)
+/* The same for pairs. */
+static double measure_pairs(const char *name, pairs_function *draw_pairs, list_function *our_call,
+                            list_function *their_call, unsigned long rounds)
 {
     static struct pairs p;
     static struct lists ours, theirs;
@@ -272,8 +287,8 @@ static double measure_pairs(const char *name, pairs_function *draw_pairs, unsign
     draw_pairs(&p);
     ours.best = theirs.best = 0;
     for (unsigned long round = 0; round < rounds; round++) {
-        time_comparisons(&p, &ours, frostsorrel_compare);
-        time_comparisons(&p, &theirs, reference_compare);
+        time_pairs(&p, &ours, our_call);
+        time_pairs(&p, &theirs, their_call);
         check_lists(name, &ours, &theirs);
     }
     return print_ratio(name, ours.best, theirs.best);
@@ -289,17 +304,17 @@ static void say_where(unsigned long rounds, unsigned long seed)
 {
     const char *machine = getenv("EMULATED_ON");
 
-    printf("%d steps or comparisons a round, best of %lu rounds, seed %lu\n", STEPS, rounds, seed);
+    printf("%d steps, comparisons or explanations a round, best of %lu rounds, seed %lu\n", STEPS, rounds, seed);
     if (machine)
         printf("both run under the emulator for x86-64 on %s: these are not times of an x86-64 machine\n",
                machine);
-    printf("nanoseconds a step or a comparison: ours, plain C at -O2, and ours / plain C\n");
+    printf("nanoseconds for each of these: ours, plain C at -O2, and ours / plain C\n");
 }
 
 int main(int argc, char **argv)
 {
     unsigned long rounds = argument(argc, argv, 1, 15), seed = argument(argc, argv, 2, 1);
-    double ratios[5], worst = 0;
+    double ratios[6], worst = 0;
 
     if (rounds == 0 || rounds > MOST_ROUNDS)
         rounds = MOST_ROUNDS;
@@ -308,9 +323,10 @@ int main(int argc, char **argv)
     ratios[0] = measure("frame-heavy", receiving_image, receiving_event, rounds);
     ratios[1] = measure("sending", sending_image, sending_event, rounds);
     ratios[2] = measure("mixed", good_image, likely_event, rounds);
-    ratios[3] = measure_pairs("few differ", draw_neighbours, rounds);
-    ratios[4] = measure_pairs("most differ", draw_strangers, rounds);
-    for (int i = 0; i < 5; i++)
+    ratios[3] = measure_pairs("few differ", draw_neighbours, frostsorrel_compare, reference_compare, rounds);
+    ratios[4] = measure_pairs("most differ", draw_strangers, frostsorrel_compare, reference_compare, rounds);
+    ratios[5] = measure_pairs("explained", draw_questions, frostsorrel_explain, reference_explain, rounds);
+    for (int i = 0; i < 6; i++)
         worst = ratios[i] > worst ? ratios[i] : worst;
     printf("worst ratio %26.3f\n", worst);
     return report("host bench");
