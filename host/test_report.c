@@ -4,7 +4,8 @@
  * Each trace is told as it is, with some of its bytes changed, and with events repeated; random bytes are told as well.
  * The books must balance and agree with the image, every frame that came to nobody, every refusal, every step and every
  * word that changed must be told, each refusal must have a reason that fits it, and so must each frame that no mailbox
- * took, and each missing acknowledgement that TEC does not count. A frame is told with the bytes that it carries.
+ * took, and each missing acknowledgement that TEC does not count. A frame is told with the bytes that it carries, and
+ * each line of its explanation with its reason; what is said of a mask is held to a mailbox without it.
  * host/test_sanitized runs it under the compiler's sanitizers, on the machine's own processor.
  */
 #define _XOPEN_SOURCE 700 /* fork, waitpid and pipe beside C99 */
@@ -178,7 +179,7 @@ static void check_missed(const struct run *r, const char *name)
         for (int i = r->step[k].first_made; i < r->step[k + 1].first_made; i++) {
             struct text t = {0};
 
-            say_made(&t, &r->made[i], r->image[k - 1], r->step[k].event, r->step[k].answer);
+            say_made(&t, &r->made[i], r->image[k - 1], r->step[k].event);
             if (r->made[i].entry == NOT_TAKEN)
                 check_search(r->image[k - 1], r->step[k].event, r->step[k].answer, t.at, name);
             if (r->made[i].entry == NOT_HEARD)
@@ -312,12 +313,24 @@ static void check_changes(const struct run *r, const char *name)
     check(w.last == r->steps, "%s: %d steps, and the last one told is %d", name, r->steps, w.last);
 }
 
-/* A comparison that the library refuses ends the program, and says so: it must not pass for two equal images. */
-static void check_bad_image(void)
+/* ---- what the library refuses of a run ends the program, and is said: it must not pass for nothing to tell */
+
+static void compare_steps(const struct run *r)
 {
-    static uint8_t images[2][FROSTSORREL_IMAGE_BYTES]; /* zeros are not good: mailbox 0 is in the slot, unasked */
-    struct run r = {.image = images};
     struct changes c;
+
+    changes_between(r, 0, 1, &c);
+}
+
+static void explain_frame(const struct run *r)
+{
+    struct explanation e;
+
+    explain_step(r, 1, &e);
+}
+
+static void check_end(void (*ask)(const struct run *r), const struct run *r, const char *message)
+{
     char words[200] = "";
     int said[2], status = 0;
     pid_t child;
@@ -327,15 +340,96 @@ static void check_bad_image(void)
     child = fork();
     if (child == 0) {
         if (dup2(said[1], STDERR_FILENO) >= 0)
-            changes_between(&r, 0, 1, &c);
+            ask(r);
         _exit(COMMAND_DONE);
     }
     check(child > 0 && waitpid(child, &status, 0) == child, "no second process");
-    check(WIFEXITED(status) && WEXITSTATUS(status) == COMMAND_DIFFERS, "a refused comparison is passed over");
+    check(WIFEXITED(status) && WEXITSTATUS(status) == COMMAND_DIFFERS, "passed over: %s", message);
     close(said[1]);
-    check(read(said[0], words, sizeof words - 1) > 0 && strstr(words, "does not compare steps 0 and 1: refusal 1, "),
-          "a refused comparison says: %s", words); /* with that status a sanitizer ends the program too */
+    check(read(said[0], words, sizeof words - 1) > 0 && strstr(words, message),
+          "%s: it says: %s", message, words); /* with that status a sanitizer ends the program too */
     close(said[0]);
+}
+
+static void check_bad_image(void)
+{
+    static uint8_t images[2][FROSTSORREL_IMAGE_BYTES]; /* zeros are not good: mailbox 0 is in the slot, unasked */
+    uint8_t event[FROSTSORREL_EVENT_BYTES];
+    struct step steps[2] = {{0}, {frostsorrel_remote_frame(event, 0, 0), 0, 0}};
+    struct run r = {.image = images, .step = steps};
+
+    check_end(compare_steps, &r, "does not compare steps 0 and 1: refusal 1, ");
+    check_end(explain_frame, &r, "is asked to explain step 1, and answers 1, ");
+}
+
+/* ---- explanations */
+
+static int by_mask, by_no_mask; /* how often a mask made a drawn frame match, or would have freed a bit and was not used */
+
+/* Has the mailbox of this line another line once its GAME, or LAME, is the other way round? */
+static int hangs_on_mask(const uint8_t *before, const uint8_t *event, const uint8_t *line)
+{
+    uint8_t image[FROSTSORREL_IMAGE_BYTES], list[FROSTSORREL_EXPLANATION_BYTES] = {0};
+
+    memcpy(image, before, sizeof image);
+    image[16 * line[0] + 3] ^= FROSTSORREL_GAME >> 24;
+    frostsorrel_explain(image, sizeof image, event, FROSTSORREL_EVENT_BYTES, list, sizeof list);
+    return memcmp(list + FROSTSORREL_LINE_BYTES * line[0], line, FROSTSORREL_LINE_BYTES) != 0;
+}
+
+/*
+ * That a mask freed what differs is said of a match only where it hangs on the mask, and that it would have freed it only
+ * where the mailbox does not use it. Where it does, and did not match, the mask is named.
+ */
+static void check_mask(const uint8_t *before, const uint8_t *event, const uint8_t *line, const char *words,
+                       const char *name)
+{
+    const char *mask = line[0] == 31 ? "LAM" : "GAM", *named = strstr(words, mask);
+    int masked = before[16 * line[0] + 3] >> 6 & 1, hangs = hangs_on_mask(before, event, line);
+    int freed = strstr(words, ", which ") != 0, unused = strstr(words, " would free it, but ") != 0;
+
+    if (line[1] == FROSTSORREL_MATCHED)
+        check(freed == hangs && !unused, "%s: mailbox %d matched: %s", name, line[0], words);
+    else if (masked)
+        check(named && !freed && !unused, "%s: mailbox %d is masked: %s", name, line[0], words);
+    else
+        check(unused == hangs && !freed, "%s: mailbox %d is not masked: %s", name, line[0], words);
+    check(named || !(freed || unused), "%s: mailbox %d has %s: %s", name, line[0], mask, words);
+    by_mask += freed;
+    by_no_mask += unused;
+}
+
+static void check_line(const uint8_t *before, const uint8_t *event, uint64_t answer, const uint8_t *list, size_t line,
+                       const char *name)
+{
+    const uint8_t *bytes = list + FROSTSORREL_LINE_BYTES * line;
+    struct text words = {0}, detail = {0}, begins = {0};
+
+    if (bytes[1] == FROSTSORREL_NOT_HEARD)
+        text_add(&begins, "not heard: the unit is in %s", state_of(before));
+    else
+        text_add(&begins, "mailbox %lu: ", (unsigned long)line);
+    if (bytes[1] == FROSTSORREL_BIT_DIFFERS)
+        text_add(&begins, "bit %d of the identifier differs", bytes[2]);
+    say_line(&words, before, answer, list, line);
+    say_line_detail(&detail, before, event, list, line);
+    check(strncmp(words.at, begins.at, begins.length) == 0, "%s: %s is said, and not %s", name, words.at, begins.at);
+    if (bytes[1] >= FROSTSORREL_IDE_DIFFERS && bytes[1] <= FROSTSORREL_MATCHED)
+        check_mask(before, event, bytes, detail.at, name);
+    text_free(&words);
+    text_free(&detail);
+    text_free(&begins);
+}
+
+/* Nothing is said of an event that the library does not explain. */
+static void check_lines(const uint8_t *before, const uint8_t *event, uint64_t answer, const char *name)
+{
+    uint8_t list[FROSTSORREL_EXPLANATION_BYTES];
+    uint64_t lines = frostsorrel_explain(before, FROSTSORREL_IMAGE_BYTES, event, FROSTSORREL_EVENT_BYTES, list,
+                                         sizeof list);
+
+    for (size_t i = 0; i < frostsorrel_answer_count(lines); i++)
+        check_line(before, event, answer, list, i, name);
 }
 
 /* ---- traces */
@@ -348,6 +442,7 @@ static void check_told(const struct run *r, const char *name)
     for (int k = 1; k <= r->steps; k++) {
         check_idle(r, k, name);
         check_frame(r->step[k].event, name);
+        check_lines(r->image[k - 1], r->step[k].event, r->step[k].answer, name);
         if (refusal_of(r, k) == FROSTSORREL_ACCEPTED)
             check_kept_tec(r->image[k - 1], r->step[k].event, r->step[k].answer, r->image[k], name);
     }
@@ -449,6 +544,7 @@ static void check_any_image(void)
     check_frame(event, "any image");
     answer = frostsorrel_step(image, sizeof image, event, FROSTSORREL_EVENT_BYTES);
     refusal = frostsorrel_answer_refusal(answer);
+    check_lines(before, event, answer, "any image");
     if (refusal != FROSTSORREL_ACCEPTED) {
         check_reason(before, event, refusal, "any image");
     } else {
@@ -470,6 +566,8 @@ int main(int argc, char **argv)
         check_any_image();
     check(kept > kept_by_rec && kept_by_rec > 0, "%d drawn units kept their TEC, %d of them by REC alone", kept,
           kept_by_rec);
+    check(by_mask > 0 && by_no_mask > 0, "masks made %d drawn frames match, and would have freed a bit %d times",
+          by_mask, by_no_mask);
     check(taken[0] == 0xFFFF && taken[1] == 0xFFFF,
           "not every DLC was drawn: 0x%lX in data frames, 0x%lX in remote ones", wide(taken[0]), wide(taken[1]));
     return report("host report");

@@ -16,6 +16,7 @@ enum {
 int command_list(int argc, char **argv);
 int command_report(int argc, char **argv);
 int command_diff(int argc, char **argv);
+int command_explain(int argc, char **argv);
 int command_make(int argc, char **argv);
 int command_text(int argc, char **argv);
 int command_candump(int argc, char **argv);

@@ -1,6 +1,5 @@
 /* frostsorrel diff TRACE STEP STEP: what differs between two steps of a run. */
 #include <stdlib.h>
-#include <string.h>
 
 #include "run.h"
 #include "words.h"
@@ -22,33 +21,6 @@ static const char help[] =
     "\n"
     "The exit status is 0, whether or not anything differs; 1 where the trace is malformed, with the reason, or where\n"
     "a check of the run finds a difference, which the report tells; 2 where it cannot be read, or has no such step.\n";
-
-static int is_number(const char *word)
-{
-    return *word && word[strspn(word, "0123456789")] == 0;
-}
-
-/* Are the words a trace and two numbers? Answers COMMAND_DONE, or COMMAND_FAILED after a message. */
-static int understand(int argc, char **argv)
-{
-    if (!only_file(argc < 2 ? argc : 2, argv))
-        return COMMAND_FAILED;
-    for (int i = 2; i < argc; i++)
-        if (!is_number(argv[i]))
-            return misused(argv[0], "\"%s\" is no step: steps are numbers from 0 on", argv[i]);
-    if (argc != 4)
-        return misused(argv[0], "two steps are compared, and %d %s named", argc - 2, argc == 3 ? "is" : "are");
-    return COMMAND_DONE;
-}
-
-/* Has the run such a step? If not, it says so. Of a number that is too large strtol makes the largest long. */
-static int has_step(const struct run *r, const char *path, const char *word)
-{
-    if (strtol(word, 0, 10) <= r->steps)
-        return 1;
-    misused("diff", "no step %s: %s has %d event%s", word, name_of_input(path), r->steps, r->steps == 1 ? "" : "s");
-    return 0;
-}
 
 /* In the words and columns of the report. */
 static void write_change(struct text *out, const struct changes *c, size_t entry)
@@ -72,43 +44,27 @@ static void write_changes(struct text *out, const struct changes *c)
         write_change(out, c, i);
 }
 
-static int show_changes(const struct run *r, const char *path, int from, int to)
+static int show_changes(const struct run *r, char **argv)
 {
+    int from = atoi(argv[2]), to = atoi(argv[3]), status;
     struct text out = {0};
     struct changes c;
-    int status;
 
     changes_between(r, from, to, &c);
-    text_add(&out, "%s: from step %d to step %d, ", name_of_input(path), from, to);
+    text_add(&out, "%s: from step %d to step %d, ", name_of_input(argv[1]), from, to);
     write_changes(&out, &c);
     status = text_show(&out, 0);
     text_free(&out);
     return status;
 }
 
-static int complain_of_checks(const char *path)
-{
-    complain("%s: a check of the run found a difference, which frostsorrel report tells", name_of_input(path));
-    return COMMAND_DIFFERS;
-}
-
 int command_diff(int argc, char **argv)
 {
-    struct run r;
-    int status;
-
     if (asks_help(argc, argv))
         return show_help(help);
-    if (understand(argc, argv) != COMMAND_DONE || run_trace(argv[1], &r) != COMMAND_DONE)
+    if (understand_steps(argc, argv, 0) != COMMAND_DONE)
         return COMMAND_FAILED;
-    if (r.trace.fault.length)
-        status = complain_of_trace(argv[1], &r.trace);
-    else if (!has_step(&r, argv[1], argv[2]) || !has_step(&r, argv[1], argv[3]))
-        status = COMMAND_FAILED;
-    else
-        status = show_changes(&r, argv[1], atoi(argv[2]), atoi(argv[3]));
-    if (status == COMMAND_DONE && r.fault.length)
-        status = complain_of_checks(argv[1]);
-    free_run(&r);
-    return status;
+    if (argc != 4)
+        return misused("diff", "two steps are compared, and %d %s named", argc - 2, argc == 3 ? "is" : "are");
+    return show_steps(argc, argv, show_changes);
 }

@@ -13,9 +13,9 @@ static const struct subcommand {
     const char *name;
     int (*run)(int argc, char **argv);
 } subcommands[] = {
-    {"make", command_make},           {"report", command_report}, {"diff", command_diff},
-    {"list", command_list},           {"text", command_text},     {"candump", command_candump},
-    {"registers", command_registers},
+    {"make", command_make},       {"report", command_report}, {"explain", command_explain},
+    {"diff", command_diff},       {"list", command_list},     {"text", command_text},
+    {"candump", command_candump}, {"registers", command_registers},
 };
 
 static const char help[] =
@@ -23,6 +23,7 @@ static const char help[] =
     "\n"
     "  frostsorrel make SCENARIO [-o TRACE]   makes a trace of a scenario, which is text\n"
     "  frostsorrel report [--html] TRACE      every step in words, every loss, the books of every mailbox\n"
+    "  frostsorrel explain TRACE STEP         why the frame of a step landed where it did, mailbox by mailbox\n"
     "  frostsorrel diff TRACE STEP STEP       every word that differs between two steps of a run\n"
     "  frostsorrel list TRACE                 the listing: step, code, mailbox, count\n"
     "  frostsorrel text TRACE                 the scenario that makes this trace\n"

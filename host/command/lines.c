@@ -81,8 +81,9 @@ static int read_text(const char *path, struct bytes *into)
         return COMMAND_FAILED;
     if (into->length == 0 || (into->length <= LONGEST_TEXT && is_text(into)))
         return COMMAND_DONE;
-    complain(into->length > LONGEST_TEXT ? "%s: longer than 4 MiB, so it is none of the texts that this reads"
-                                         : "%s: this is no text; a trace is for frostsorrel report, diff, list or text",
+    complain(into->length > LONGEST_TEXT
+                 ? "%s: longer than 4 MiB, so it is none of the texts that this reads"
+                 : "%s: this is no text; a trace is for frostsorrel report, explain, diff, list or text",
              name_of_input(path));
     free(into->at);
     return COMMAND_FAILED;

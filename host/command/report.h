@@ -31,6 +31,9 @@ void tell_state(struct pen *p, const struct run *r);
 /* "19 steps, 1 frame lost, 2 not heard, 1 event refused" */
 void say_sums(struct text *t, const struct run *r);
 
+/* "REFUSED 5, busy: mailbox 2 is being sent": of a step that was refused. */
+void say_refusal(struct text *t, const struct run *r, int step);
+
 /* What befell a frame at worst: LOSS if one was overwritten or dropped, MISSED if one came to no mailbox, or BOOKED. */
 enum kind worst_of(const struct run *r);
 

@@ -24,6 +24,47 @@ static void check_step(struct run *r, int step)
             text_add(&r->fault, "step %d: the books of mailbox %d do not balance\n", step, n);
 }
 
+/* Is this mailbox named where it matches? One that transmits and does not reply is not. */
+static int is_named(const uint8_t *before, uint32_t n)
+{
+    return frostsorrel_register_word(before, FROSTSORREL_MD) & BIT(n) ||
+           frostsorrel_mailbox_word(before, n, 0) & FROSTSORREL_RFH;
+}
+
+/*
+ * How a frame has to be answered, going by its explanation: the lines with reasons 3, 4 and 5 are the mailboxes that
+ * were compared, and the one that matched is named. A frame that is not heard has no such line.
+ */
+static uint64_t explained_answer(const uint8_t *before, const struct explanation *e)
+{
+    uint32_t named = FROSTSORREL_NO_MAILBOX;
+    uint64_t compared = 0;
+
+    for (size_t i = 0; i < e->count; i++) {
+        uint32_t n = frostsorrel_line_mailbox(e->list, i), reason = frostsorrel_line_reason(e->list, i);
+
+        compared += reason >= FROSTSORREL_IDE_DIFFERS && reason <= FROSTSORREL_MATCHED;
+        if (reason == FROSTSORREL_MATCHED && is_named(before, n))
+            named = n;
+    }
+    return 256 * named + 65536 * compared;
+}
+
+static void check_explanation(struct run *r, int step)
+{
+    uint64_t answer = r->step[step].answer, explained;
+    struct explanation e;
+
+    if (r->step[step].event[0] != FROSTSORREL_FRAME || refusal_of(r, step) != FROSTSORREL_ACCEPTED)
+        return;
+    explain_step(r, step, &e);
+    explained = explained_answer(r->image[step - 1], &e);
+    if (explained != answer)
+        text_add(&r->fault, "step %d: mailbox %lu, %lu compared, and its explanation says mailbox %lu, %lu compared\n",
+                 step, wide(frostsorrel_answer_mailbox(answer)), (unsigned long)frostsorrel_answer_count(answer),
+                 wide(frostsorrel_answer_mailbox(explained)), (unsigned long)frostsorrel_answer_count(explained));
+}
+
 /* What the listing has to be, going by the answers of the steps. */
 static void write_listing(struct text *t, const struct run *r)
 {
@@ -66,6 +107,7 @@ static void take_step(struct run *r, int step, const uint8_t *event)
     r->made = grown(r->made, (size_t)(s[1].first_made + 1) * sizeof *r->made);
     memcpy(r->made + s->first_made, r->books.made, (size_t)r->books.mades * sizeof *r->made);
     check_step(r, step);
+    check_explanation(r, step);
 }
 
 static void take_steps(struct run *r)
@@ -123,4 +165,80 @@ void changes_between(const struct run *r, int from, int to, struct changes *into
         exit(COMMAND_DIFFERS); /* nothing is written before all of it is there */
     }
     into->count = (size_t)frostsorrel_answer_count(answer);
+}
+
+/* What is no frame cannot be explained, nor a frame that the step refuses for its own bytes. */
+static uint32_t refusal_to_explain(const struct run *r, int step)
+{
+    if (r->step[step].event[0] != FROSTSORREL_FRAME)
+        return FROSTSORREL_UNKNOWN;
+    return refusal_of(r, step) == FROSTSORREL_NOT_ALLOWED ? FROSTSORREL_NOT_ALLOWED : FROSTSORREL_ACCEPTED;
+}
+
+void explain_step(const struct run *r, int step, struct explanation *into)
+{
+    uint64_t answer = frostsorrel_explain(r->image[step - 1], FROSTSORREL_IMAGE_BYTES, r->step[step].event,
+                                          FROSTSORREL_EVENT_BYTES, into->list, sizeof into->list);
+    uint32_t refusal = frostsorrel_answer_refusal(answer);
+
+    if (refusal != refusal_to_explain(r, step)) {
+        complain("a fault: the library is asked to explain step %d, and answers %lu, %s", step, wide(refusal),
+                 frostsorrel_refusal_reason(refusal));
+        exit(COMMAND_DIFFERS); /* nothing is written yet, here too */
+    }
+    into->refusal = refusal;
+    into->count = (size_t)frostsorrel_answer_count(answer);
+}
+
+/* ---- subcommands whose words are a trace and steps of it */
+
+static int is_step(const char *word, int first)
+{
+    return *word && word[strspn(word, "0123456789")] == 0 && strtol(word, 0, 10) >= first;
+}
+
+int understand_steps(int argc, char **argv, int first)
+{
+    if (!only_file(argc < 2 ? argc : 2, argv))
+        return COMMAND_FAILED;
+    for (int i = 2; i < argc; i++)
+        if (!is_step(argv[i], first))
+            return misused(argv[0], "\"%s\" is no step: steps are numbers from %d on", argv[i], first);
+    return COMMAND_DONE;
+}
+
+/* Has the run such a step? Of a number that is too large strtol makes the largest long. */
+static int has_step(const struct run *r, char **argv, const char *word)
+{
+    if (strtol(word, 0, 10) <= r->steps)
+        return 1;
+    misused(argv[0], "no step %s: %s has %d event%s", word, name_of_input(argv[1]), r->steps, r->steps == 1 ? "" : "s");
+    return 0;
+}
+
+static int has_steps(const struct run *r, int argc, char **argv)
+{
+    for (int i = 2; i < argc; i++)
+        if (!has_step(r, argv, argv[i]))
+            return 0;
+    return 1;
+}
+
+int show_steps(int argc, char **argv, int (*show)(const struct run *r, char **argv))
+{
+    struct run r;
+    int status;
+
+    if (run_trace(argv[1], &r) != COMMAND_DONE)
+        return COMMAND_FAILED;
+    if (r.trace.fault.length)
+        status = complain_of_trace(argv[1], &r.trace);
+    else
+        status = has_steps(&r, argc, argv) ? show(&r, argv) : COMMAND_FAILED;
+    if (status == COMMAND_DONE && r.fault.length) {
+        complain("%s: a check of the run found a difference, which frostsorrel report tells", name_of_input(argv[1]));
+        status = COMMAND_DIFFERS;
+    }
+    free_run(&r);
+    return status;
 }

@@ -24,7 +24,8 @@ struct run {
 /*
  * Reads a trace and runs it. Answers COMMAND_DONE, also for a malformed one, whose trace.fault is set and which has
  * no steps; or COMMAND_FAILED after a message, with nothing to free. After every step the books must balance and RMP,
- * RML and TRS must say the same; the answers must be those of frostsorrel_listing. What does not hold is a fault.
+ * RML and TRS must say the same; the answers must be those of frostsorrel_listing, and of a frame that was taken those
+ * that frostsorrel_explain gives reasons for. What does not hold is a fault.
  */
 int run_trace(const char *path, struct run *into);
 
@@ -47,5 +48,29 @@ struct changes {
  * that the library lists what differs; where it refuses, that is said, and the program ends with COMMAND_DIFFERS.
  */
 void changes_between(const struct run *r, int from, int to, struct changes *into);
+
+/* Why a frame lands where it does, as frostsorrel_explain lists it. */
+struct explanation {
+    uint32_t refusal; /* 2 where the event is no frame, 4 where it is a frame that is not allowed; else 0, and lines */
+    size_t count;
+    uint8_t list[FROSTSORREL_EXPLANATION_BYTES];
+};
+
+/*
+ * Explains the event of this step, from the image before it. Where the library refuses what it has no reason to, or
+ * takes what it should refuse, that is said, and the program ends with COMMAND_DIFFERS.
+ */
+void explain_step(const struct run *r, int step, struct explanation *into);
+
+/* ---- subcommands whose words are a trace and steps of it */
+
+/* Are they, with steps from this one on? Answers COMMAND_DONE, or COMMAND_FAILED after a message. */
+int understand_steps(int argc, char **argv, int first);
+
+/*
+ * Runs the trace and, where it has all these steps, shows what is asked of them. Answers the exit status: that of
+ * `show`, or COMMAND_DIFFERS where a check of the run found a difference, which is said.
+ */
+int show_steps(int argc, char **argv, int (*show)(const struct run *r, char **argv));
 
 #endif

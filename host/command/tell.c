@@ -157,7 +157,7 @@ static int last_of_row(const struct run *r, int first)
     return last;
 }
 
-static void say_refusal(struct text *t, const struct run *r, int step)
+void say_refusal(struct text *t, const struct run *r, int step)
 {
     uint32_t refusal = refusal_of(r, step);
 
@@ -189,7 +189,7 @@ static void tell_entries(struct pen *p, const struct run *r, int step)
     struct text words = {0}, none = {0};
 
     for (int i = r->step[step].first_made; i < r->step[step + 1].first_made; i++) {
-        say_made(&words, &r->made[i], r->image[step - 1], r->step[step].event, r->step[step].answer);
+        say_made(&words, &r->made[i], r->image[step - 1], r->step[step].event);
         put_detail(p, kind_of(r->made[i].entry), &words, &none);
     }
 }
@@ -341,7 +341,7 @@ static void tell_loss(struct pen *p, const struct run *r, int step, const struct
     int was_stored = m->mailbox != FROSTSORREL_NO_MAILBOX;
     struct text t = {0};
 
-    say_made(&t, m, r->image[step - 1], s->event, s->answer);
+    say_made(&t, m, r->image[step - 1], s->event);
     text_add(&t, was_stored ? " in step %d: " : ", step %d: ", step);
     say_event(&t, r->step[was_stored ? m->since : step].event);
     p->line(p, kind_of(m->entry), t.at);

@@ -282,28 +282,23 @@ void say_answer(struct text *t, const uint8_t *before, const uint8_t *event, uin
     say_kept_tec(t, before, event);
 }
 
-/*
- * The transmit mailbox at which the search for a mailbox ended, 32 if it ended at none. The library itself says: it
- * would name that one, after as many comparisons, if all of them replied (RFH).
- */
-static uint32_t search_ended_at(const uint8_t *before, const uint8_t *event, uint64_t answer)
+/* The mailbox at which the search for one ended, 32 if it ended at none: the last line of the explanation says it. */
+static uint32_t search_ended_at(const uint8_t *before, const uint8_t *event)
 {
-    uint8_t replying[FROSTSORREL_IMAGE_BYTES];
-    uint64_t other;
+    uint8_t list[FROSTSORREL_EXPLANATION_BYTES];
+    uint64_t answer = frostsorrel_explain(before, FROSTSORREL_IMAGE_BYTES, event, FROSTSORREL_EVENT_BYTES, list,
+                                          sizeof list);
+    size_t count = (size_t)frostsorrel_answer_count(answer);
 
-    memcpy(replying, before, sizeof replying);
-    for (int n = 0; n < FROSTSORREL_MAILBOXES; n++)
-        replying[16 * n + 3] |= FROSTSORREL_RFH >> 24;
-    other = frostsorrel_step(replying, sizeof replying, event, FROSTSORREL_EVENT_BYTES);
-    return frostsorrel_answer_count(other) == frostsorrel_answer_count(answer) ? frostsorrel_answer_mailbox(other)
-                                                                               : FROSTSORREL_NO_MAILBOX;
+    return count && frostsorrel_line_reason(list, count - 1) == FROSTSORREL_MATCHED
+               ? frostsorrel_line_mailbox(list, count - 1)
+               : FROSTSORREL_NO_MAILBOX;
 }
 
-static void say_not_taken(struct text *t, const uint8_t *before, const uint8_t *event, uint64_t answer)
+static void say_not_taken(struct text *t, const uint8_t *before, const uint8_t *event)
 {
-    uint32_t n = search_ended_at(before, event, answer);
+    uint32_t n = search_ended_at(before, event);
 
-    text_add(t, "NOT TAKEN: ");
     if (n != FROSTSORREL_NO_MAILBOX)
         text_add(t, "it matches mailbox %lu, which transmits and does not reply (RFH 0): the search ends there",
                  wide(n));
@@ -313,18 +308,18 @@ static void say_not_taken(struct text *t, const uint8_t *before, const uint8_t *
         text_add(t, "no enabled mailbox that receives matches it");
 }
 
-static void say_not_heard(struct text *t, const uint8_t *before)
+void say_not_heard(struct text *t, const char *state, const uint8_t *before)
 {
     int sleeps = frostsorrel_register_word(before, FROSTSORREL_WORD_MODE) == FROSTSORREL_SLEEP;
 
-    text_add(t, "NOT HEARD: the unit is in %s", state_of(before));
+    text_add(t, "the unit is in %s", state);
     if (sleeps && frostsorrel_register_word(before, FROSTSORREL_WORD_OPTIONS) & FROSTSORREL_WUBA)
         text_add(t, ", and the frame only wakes it");
 }
 
-void say_made(struct text *t, const struct made *m, const uint8_t *before, const uint8_t *event, uint64_t answer)
+void say_made(struct text *t, const struct made *m, const uint8_t *before, const uint8_t *event)
 {
-    static const char *const words[NOT_HEARD] = {
+    static const char *const words[] = {
         "stored: mailbox %d",
         "released: mailbox %d, the frame of step %d",
         "LOST: mailbox %d, the frame of step %d was overwritten unread",
@@ -334,14 +329,15 @@ void say_made(struct text *t, const struct made *m, const uint8_t *before, const
         "aborted: mailbox %d, the request of step %d",
         "dropped by sleep: mailbox %d, the request of step %d",
         "dropped by the reset: mailbox %d, the request of step %d",
+        "NOT HEARD: ",
+        "NOT TAKEN: ",
     };
 
+    text_add(t, words[m->entry], m->mailbox, m->since);
     if (m->entry == NOT_TAKEN)
-        say_not_taken(t, before, event, answer);
-    else if (m->entry == NOT_HEARD)
-        say_not_heard(t, before);
-    else
-        text_add(t, words[m->entry], m->mailbox, m->since);
+        say_not_taken(t, before, event);
+    if (m->entry == NOT_HEARD)
+        say_not_heard(t, state_of(before), before);
     if (m->entry == RELEASED && frostsorrel_register_word(before, FROSTSORREL_RML) & BIT(m->mailbox))
         text_add(t, "; its lost flag is cleared with it");
 }

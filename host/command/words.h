@@ -1,4 +1,4 @@
-/* Events, answers, refusals and changes of the image, in words for people. */
+/* Events, answers, refusals, explanations and changes of the image, in words for people. */
 #ifndef WORDS_H
 #define WORDS_H
 
@@ -18,7 +18,23 @@ void say_answer(struct text *t, const uint8_t *before, const uint8_t *event, uin
 void say_reason(struct text *t, const uint8_t *before, const uint8_t *event, uint32_t refusal);
 
 /* An entry in the books, and why a frame came to no mailbox: "released: mailbox 5, the frame of step 14". */
-void say_made(struct text *t, const struct made *m, const uint8_t *before, const uint8_t *event, uint64_t answer);
+void say_made(struct text *t, const struct made *m, const uint8_t *before, const uint8_t *event);
+
+/* Why a frame was not heard in this state: "the unit is in sleep, and the frame only wakes it". */
+void say_not_heard(struct text *t, const char *state, const uint8_t *before);
+
+/*
+ * Why a mailbox did not get the frame of a step, or that it did, by a line of frostsorrel_explain's list: "mailbox 3:
+ * bit 24 of the identifier differs". Of a frame that the step refused it says what would come of it.
+ */
+void say_line(struct text *t, const uint8_t *before, uint64_t answer, const uint8_t *list, size_t line);
+
+/*
+ * What one would look up next: the mailbox's identifier and what of it decided, its bits as the frame's identifier is
+ * written: "0x718: 0x040 is 0 here, 1 in the frame; GAM frees 0x007", "0x718: differs in 0x002, which GAM frees".
+ * Nothing of a disabled mailbox whose word 0 is 0.
+ */
+void say_line_detail(struct text *t, const uint8_t *before, const uint8_t *event, const uint8_t *list, size_t line);
 
 /* The register words stand behind the four of each mailbox, counted from the first byte of an image. */
 enum { FIRST_REGISTER = 4 * FROSTSORREL_MAILBOXES };
