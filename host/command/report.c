@@ -21,8 +21,8 @@ static const char help[] =
     "\n"
     "--html prints a page for a browser, all in one file, with a picture of the run. - is standard input.\n"
     "\n"
-    "The exit status is 0; 1 where the trace is malformed, with the reason, or where the library and the books or the\n"
-    "listing differ, which is told with the books; 2 where it cannot be read.\n";
+    "The exit status is 0; 1 where the trace is malformed, with the reason, or where the answers of the steps and the\n"
+    "books, the listing or the explanation of a frame differ, which is told with the books; 2 where it cannot be read.\n";
 
 /* ---- the report as text */
 
