@@ -1,6 +1,6 @@
 -- What a call leaves that writes a list: by the room for it, and that this is one outcome.
 use Prim.Native.Nat.{ℕ, _<_, _≤_}
-use mathlib.Core.Path.{_≡_, refl, sym, _∙_}
+use mathlib.Core.Path.{_≡_, refl, sym, _∙_, subst}
 use mathlib.Core.Bool.{Bool, true, false}
 use mathlib.Core.List.{List}
 use native.Mathlib.Omega.{arith}
@@ -15,6 +15,11 @@ module _ {count : ℕ} {text o x : List ℕ} {r : ℕ} where
 
   pub long-enough : length text ≤ length o → Tells count text o x r → Fitted count text o x r
   long-enough l t = record { short = λ m. absurd (omega arith); fits = λ m. t }
+
+-- the same list, in other words
+pub fitted-as : {n m : ℕ} {t u o x : List ℕ} {r : ℕ} → n ≡ m → t ≡ u → Fitted n t o x r → Fitted m u o x r
+fitted-as {m = m} {t = t} {o = o} {x = x} {r = r} p q f =
+    subst (λ (v : List ℕ). Fitted m v o x r) q (subst (λ (k : ℕ). Fitted k t o x r) p f)
 
 module _ {x y : List ℕ} {r s : ℕ} where
   -- two outcomes that are both a third one

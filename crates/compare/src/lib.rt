@@ -109,18 +109,14 @@ fn counted(end: usize) -> u64
     answers::pack(0, 32, (end / 12) as u32)
 }
 
-// The list, where it may not fit: it is made apart from the lent bytes, since a refusal writes nothing.
+// The list, where it may not fit.
 fn tell_if_it_fits(first: &[u8], second: &[u8], list: &mut [u8]) -> u64
     requires { ⌜ (length (now first) ≡ imageBytes) × (length (now second) ≡ imageBytes) ⌝ }
     ensures { λ r. ⌜ Fitted (length (differences (now (first .entry)) (now (second .entry)))) (listBytes (differences (now (first .entry)) (now (second .entry)))) (now (list .entry)) (now (list .exit)) r ⌝ }
 {
     let mut apart = [0u8; 1920];
     let end = put_list(first, second, &mut apart);
-    if list.len() < end {
-        return answers::pack(9, 32, 0);
-    }
-    texts::put_text(list, 0, &apart[..end]);
-    counted(end)
+    texts::tell(list, &apart[..end], (end / 12) as u32)
 }
 
 // Any bytes: the list of what differs, or a refusal that writes nothing. Bytes that have room for any list need none apart.

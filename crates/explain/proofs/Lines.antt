@@ -1,24 +1,25 @@
 -- The lines: those of the mailboxes below a number, their bytes, and where they end.
-use Prim.Native.Nat.{ℕ, zero, suc, _+_, _*_, _<_, _≤_}
+use Prim.Native.Nat.{ℕ, zero, suc, _+_, _*_, _/_, _%_, _<_, _≤_}
 use mathlib.Core.Path.{_≡_, refl, sym, _∙_, ap, subst}
 use mathlib.Core.Bool.{Bool, true, false, cond}
 use mathlib.Core.List.{List, [], _∷_, _++_}
 use mathlib.Core.Logic.{_⊎_, inl, inr, ⊎-elim}
 use native.Mathlib.Decide.{ℕ-discrete}
+use native.Mathlib.Nat.{mod-eq-of-lt}
 use native.Mathlib.Numerals.{add-one}
 use native.Mathlib.Omega.{arith}
 use lib.Dec.{ltb}
 use lib.ListN.{length, length-append}
-use borrow.Author.Tests.{lt-ltb, le-ltb}
+use borrow.Author.Tests.{lt-ltb, le-ltb, ltb-true, ltb-false}
 use Rattle.bits.specs.Below.{countBelow, firstBelow}
+use Rattle.bits.proofs.Below.{first-by}
 use Rattle.answers.specs.Answer.{Fitted}
+use Rattle.texts.specs.Text.{wordBytes}
 use Rattle.texts.proofs.Parts.{parts-none, parts-one, parts-both, parts-length}
 use Rattle.registers.specs.Block.{blockOf}
 use Rattle.registers.specs.Status.{busOff}
 use Rattle.registers.specs.Modes.{onBus}
 use Rattle.events.specs.declared.Frame.{Frame}
-use Rattle.filter.specs.declared.Found.the-variants.{At, Missing}
-use Rattle.filter.specs.Filter.{hits, comparedBelow, found}
 use Rattle.rules.specs.Words.{among}
 use Rattle.explain.specs.declared.Reason.{Reason}
 use Rattle.explain.specs.declared.Reason.the-variants.{NotHeard}
@@ -26,7 +27,6 @@ use Rattle.explain.specs.declared.Line.{Line}
 use Rattle.explain.specs.Explain.{number, linesBelow, isMatched, linesTo, lines, unheard, lineBytes, listBytes}
 use Rattle.explain.specs.Terms.{reasonBy, explainedBy}
 use Rattle.explain.specs.Agreement.{IsTold, comparisons}
-use Rattle.explain.proofs.Reasons.{matched-hits}
 
 -- ---- bytes
 
@@ -43,9 +43,22 @@ unfolding listBytes
 text-both = parts-both lineBytes
 
 -- 8 a line
-text-length : (ls : List Line) → length (listBytes ls) ≡ 8 * length ls
+pub text-length : (ls : List Line) → length (listBytes ls) ≡ 8 * length ls
 unfolding listBytes
 text-length = parts-length lineBytes 8 (λ l. refl)
+
+-- a line in two words
+pub line-words : (m n d : ℕ) → m < 256 → n < 256 → d < 256 → wordBytes (m + 256 * n + 65536 * d) ++ wordBytes 0 ≡ m ∷ n ∷ d ∷ 0 ∷ 0 ∷ 0 ∷ 0 ∷ 0 ∷ []
+line-words m n d hm hn hd =
+    let w = m + 256 * n + 65536 * d in
+    let e0 : w % 256 ≡ m = omega arith in
+    let q1 : w / 256 ≡ n + 256 * d = omega arith in
+    let e1 : w / 256 % 256 ≡ n = ap (λ (x : ℕ). x % 256) q1 ∙ omega arith in
+    let q2 : w / 65536 ≡ d = omega arith in
+    let e2 : w / 65536 % 256 ≡ d = ap (λ (x : ℕ). x % 256) q2 ∙ mod-eq-of-lt hd in
+    let q3 : w / 16777216 ≡ 0 = omega arith in
+    let e3 : w / 16777216 % 256 ≡ 0 = ap (λ (x : ℕ). x % 256) q3 in
+    λ i. e0 i ∷ e1 i ∷ e2 i ∷ e3 i ∷ 0 ∷ 0 ∷ 0 ∷ 0 ∷ []
 
 -- the line of a frame that is not heard
 pub unheard-bytes : (mode : ℕ) (off : Bool) → listBytes (unheard mode off) ≡ lineBytes (record { mailbox = 32; reason = NotHeard (cond off 4 mode) })
@@ -94,29 +107,31 @@ ends-at n l = rw (lt-ltb n 32 l) (sym (add-one n))
 pub ends-last : (n : ℕ) → 32 ≤ n → linesTo n ≡ 32
 ends-last n l = rw (le-ltb n 32 l)
 
--- at the mailbox that the search finds, or at the last
-module _ (s : List ℕ) (f : Frame) where
-  abbrev stop : ℕ
-  stop = firstBelow (hits s f) 32
+-- at the first mailbox that matched, or at the last
+module _ (r : ℕ → Reason) where
+  pub matched-ends : (n : ℕ) → n < 32 → isMatched (r n) ≡ true → ((j : ℕ) → j < n → isMatched (r j) ≡ false) → lines r ≡ linesBelow r (n + 1)
+  unfolding lines
+  matched-ends n l h before =
+      let e = first-by (λ k. isMatched (r k)) 32 n (record { most = omega arith; holds = λ m. h; none = before }) in
+      ap (linesBelow r) (ap linesTo e ∙ ends-at n l)
 
-  same-stop : firstBelow (λ n. isMatched (reasonBy s f n)) 32 ≡ stop
-  same-stop = ap (λ (p : ℕ → Bool). firstBelow p 32) (λ i n. matched-hits s f n i)
+  pub none-ends : ((j : ℕ) → j < 32 → isMatched (r j) ≡ false) → lines r ≡ linesBelow r 32
+  unfolding lines
+  none-ends before =
+      let e = first-by (λ k. isMatched (r k)) 32 32 (record { most = omega arith; holds = λ m. absurd (omega arith); none = before }) in
+      ap (linesBelow r) (ap linesTo e ∙ ends-last 32 (omega arith))
 
-  pub found-ends : (n c : ℕ) → found s f ≡ At n c → linesTo (firstBelow (λ n. isMatched (reasonBy s f n)) 32) ≡ n + 1
-  unfolding found
-  found-ends n c h = ap linesTo same-stop ∙ at (ltb stop 32) h
+  -- 32 lines at most
+  pub lines-most : length (lines r) ≤ 32
+  unfolding lines
+  lines-most = omega (arith, below-length r (linesTo stop), at (ltb stop 32) refl)
     where
-      at : (t : Bool) → cond t (At stop (comparedBelow s f (suc stop))) (Missing (comparedBelow s f 32)) ≡ At n c → cond t (suc stop) 32 ≡ n + 1
-      at true q = let e : stop ≡ n = cc in omega arith
-      at false q = let z : _≡_ {A = ℕ} 0 1 = cc in absurd (omega arith)
+      stop : ℕ
+      stop = firstBelow (λ k. isMatched (r k)) 32
 
-  pub missing-ends : (c : ℕ) → found s f ≡ Missing c → linesTo (firstBelow (λ n. isMatched (reasonBy s f n)) 32) ≡ 32
-  unfolding found
-  missing-ends c h = ap linesTo same-stop ∙ at (ltb stop 32) h
-    where
-      at : (t : Bool) → cond t (At stop (comparedBelow s f (suc stop))) (Missing (comparedBelow s f 32)) ≡ Missing c → cond t (suc stop) 32 ≡ 32
-      at true q = let z : _≡_ {A = ℕ} 0 1 = cc in absurd (omega arith)
-      at false q = refl
+      at : (t : Bool) → ltb stop 32 ≡ t → linesTo stop ≤ 32
+      at true q = let l = ltb-true stop 32 q in omega (arith, ends-at stop l)
+      at false q = omega (arith, ends-last stop (ltb-false stop 32 q))
 
 -- the lines of a frame, by whether it is heard
 module _ (s : List ℕ) (f : Frame) where
@@ -125,6 +140,13 @@ module _ (s : List ℕ) (f : Frame) where
 
   pub unheard-lines : onBus (blockOf s) ≡ false → explainedBy s f ≡ unheard (blockOf s .mode) (busOff (blockOf s))
   unheard-lines h = rw h
+
+  pub explained-most : length (explainedBy s f) ≤ 32
+  explained-most = at (onBus (blockOf s)) refl
+    where
+      at : (t : Bool) → onBus (blockOf s) ≡ t → length (explainedBy s f) ≤ 32
+      at true h = omega (arith, ap length (heard-lines h), lines-most (reasonBy s f))
+      at false h = omega (arith, ap length (unheard-lines h))
 
 -- ---- what is told
 

@@ -23,7 +23,7 @@ use Rattle.rules.specs.Receiving.{matters, freed, compared}
 use Rattle.rules.proofs.Receiving.{freed-same, frame-same}
 use Rattle.explain.specs.declared.Reason.{Reason}
 use Rattle.explain.specs.declared.Reason.the-variants.{Disabled, Transmits, IdeDiffers, BitDiffers, Matched, NotHeard}
-use Rattle.explain.specs.Explain.{number, differs, highestBelow, firstReason, reason, isMatched}
+use Rattle.explain.specs.Explain.{number, differs, highestBelow, comparedReason, firstReason, reason, isMatched}
 use Rattle.explain.specs.Terms.{reasonBy}
 
 -- ---- the highest bit that differs
@@ -226,9 +226,24 @@ by-highest d i small a b c h = let l = at (ltb i 29) refl (ltb i 32) refl (ℕ-d
 
 -- ---- by the tests
 
-module _ (enabled receives : Bool) (a : enabled ≡ true) (b : receives ≡ true) (p : ℕ → Bool) where
-  pub by-ide : p 31 ≡ true → firstReason enabled receives p ≡ IdeDiffers
-  by-ide h = rw (a, b, h)
+module _ (p : ℕ → Bool) where
+  pub by-ide : p 31 ≡ true → comparedReason p ≡ IdeDiffers
+  by-ide h = rw h
 
-  pub by-bits : p 31 ≡ false → firstReason enabled receives p ≡ highestBelow p 29
-  by-bits h = rw (a, b, h)
+  pub by-bits : p 31 ≡ false → comparedReason p ≡ highestBelow p 29
+  by-bits h = rw h
+
+pub by-none : (d : ℕ) → d ≡ 0 → comparedReason (bit d) ≡ Matched
+by-none d z =
+    let h : (i : ℕ) → bit d i ≡ false = λ i. ap (λ (x : ℕ). bit x i) z ∙ bit-zero i in
+    by-bits (bit d) (h 31) ∙ all-same (bit d) 29 (λ i l. h i)
+
+module _ (s : List ℕ) (f : Frame) (n : ℕ) where
+  pub is-disabled : bit (blockOf s .mc) n ≡ false → reasonBy s f n ≡ Disabled
+  is-disabled h = rw h
+
+  pub transmits : bit (blockOf s .mc) n ≡ true → (f .rtr || bit (blockOf s .md) n) ≡ false → reasonBy s f n ≡ Transmits
+  transmits h r = rw (h, r)
+
+  pub is-compared : bit (blockOf s .mc) n ≡ true → (f .rtr || bit (blockOf s .md) n) ≡ true → reasonBy s f n ≡ comparedReason (bit (differingAt s f n))
+  is-compared h r = rw (h, r)

@@ -39,16 +39,18 @@ detail (NotHeard m) = m
 abbrev pub differs : List ℕ → List ℕ → ℕ → ℕ → Bool
 differs s e n i = matters e i && not (freed s n i) && xor (box s n 0 has i) (value e has i)
 
--- Why did it land there: the highest bit below i that differs; where none does, the mailbox matched.
+-- Why did it land there: of a compared mailbox, IDE (bit 31) differs; else a bit of the identifier (28 to 0) does, and the highest is named;
+-- else it matched.
 unfoldable pub highestBelow : (ℕ → Bool) → ℕ → Reason
 highestBelow different zero = Matched
 highestBelow different (suc i) = cond (different i) (BitDiffers i) (highestBelow different i)
 
--- Why did it land there: the first reason that holds of a mailbox: it is disabled; it transmits and faces a data frame; IDE (bit 31) differs;
--- a bit of the identifier (28 to 0) differs; it matched.
+abbrev pub comparedReason : (ℕ → Bool) → Reason
+comparedReason different = cond (different 31) IdeDiffers (highestBelow different 29)
+
+-- Why did it land there: the first reason that holds of a mailbox: it is disabled; it transmits and faces a data frame; else as compared.
 abbrev pub firstReason : Bool → Bool → (ℕ → Bool) → Reason
-firstReason enabled receives different =
-    cond (not enabled) Disabled (cond (not receives) Transmits (cond (different 31) IdeDiffers (highestBelow different 29)))
+firstReason enabled receives different = cond (not enabled) Disabled (cond (not receives) Transmits (comparedReason different))
 
 abbrev pub reason : List ℕ → List ℕ → ℕ → Reason
 reason s e n = firstReason (words s MC has n) (rtr e || words s MD has n) (differs s e n)

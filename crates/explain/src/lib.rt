@@ -1,18 +1,16 @@
 // Document 02, request d: why did it land there?
 ghost use mathlib.Core.Path.{_≡_};
 ghost use mathlib.Core.Bool.{false};
-ghost use Prim.Native.Nat.{_*_, _+_, _<_, _≤_};
+ghost use Prim.Native.Nat.{_+_, _<_, _≤_};
 ghost use lib.ListN.{length};
 ghost use Rattle.bits.specs.Bit.{bit};
-ghost use Rattle.bits.specs.Below.{firstBelow};
 ghost use Rattle.registers.specs.Block.{imageBytes, blockOf};
 ghost use Rattle.registers.specs.Status.{busOff};
 ghost use Rattle.texts.specs.Text.{Put};
 ghost use Rattle.answers.specs.Answer.{Fitted};
-ghost use Rattle.explain.specs.Explain.{number as numberOf, detail as detailOf, firstReason, linesBelow, isMatched, linesTo, lines, unheard, lineBytes, listBytes, ExplainCall};
+ghost use Rattle.explain.specs.Explain.{number as numberOf, detail as detailOf, comparedReason, lines, unheard, lineBytes, listBytes, ExplainCall};
 ghost use Rattle.explain.specs.Terms.{reasonBy, explainedBy};
 use events::Frame;
-use filter::Found;
 use registers::Block;
 
 // The reasons. The bit is one of word 0; the state is the mode, or 4 in bus off.
@@ -58,101 +56,78 @@ fn detail(why: Reason) -> u8
     }
 }
 
-// The first reason that holds, where the compared bits that no mask frees differ in `differing`.
-fn judge(enabled: bool, receives: bool, differing: u32) -> Reason
+// The reason of a mailbox that is compared, and differs from the frame in these bits, or in none.
+fn judge(differing: u32) -> Reason
     requires { ⌜ (bit differing 30 ≡ false) × (bit differing 29 ≡ false) ⌝ }
-    ensures { λ r. ⌜ r ≡ firstReason enabled receives (bit differing) ⌝ }
+    ensures { λ r. ⌜ r ≡ comparedReason (bit differing) ⌝ }
 {
-    if !enabled {
-        return Reason::Disabled;
-    }
-    if !receives {
-        return Reason::Transmits;
+    if differing == 0 {
+        return Reason::Matched;
     }
     if bits::test(differing, 31) {
         return Reason::IdeDiffers;
-    }
-    if differing == 0 {
-        return Reason::Matched;
     }
     Reason::BitDiffers {
         bit: bits::highest(differing) as u8,
     }
 }
 
-// The reason of mailbox n.
+// The first reason that holds of mailbox n.
 fn reason_at(s: &[u8], b: Block, f: Frame, n: u32) -> Reason
     requires { ⌜ (length (now s) ≡ imageBytes) × (b ≡ blockOf (now s)) × (f .id .0 < 536870912) × (n < 32) ⌝ }
     ensures { λ r. ⌜ r ≡ reasonBy (now (s .entry)) f n ⌝ }
 {
+    if !bits::test(b.mc, n) {
+        return Reason::Disabled;
+    }
+    if !(f.rtr | bits::test(b.md, n)) {
+        return Reason::Transmits;
+    }
     let mask = bits::choose(n == 31, b.lam, b.gam);
-    let differing = filter::differing(mask, f, mailboxes::word(s, n as usize, 0));
-    judge(bits::test(b.mc, n), f.rtr | bits::test(b.md, n), differing)
+    judge(filter::differing(mask, f, mailboxes::word(s, n as usize, 0)))
 }
 
+// Two words: mailbox, reason and what is said beside it, in three bytes of the first; zeros.
 fn put_line(list: &mut [u8], at: usize, l: Line) -> usize
     requires { ⌜ at + 8 ≤ length (now list) ⌝ }
     ensures { λ r. ⌜ Put (now (list .entry)) at (lineBytes l) (now (list .exit)) r ⌝ }
 {
     let why = l.reason;
-    let line = [l.mailbox, number(why), detail(why), 0, 0, 0, 0, 0];
-    texts::put_text(list, at, &line)
+    let first = l.mailbox as u32 + 256 * (number(why) as u32) + 65536 * (detail(why) as u32);
+    let rest = texts::put_word(list, at, first);
+    texts::put_word(list, rest, 0)
 }
 
-// The lines of the mailboxes below n, at the front of bytes that have room for them.
-fn put_lines(s: &[u8], b: Block, f: Frame, n: u32, list: &mut [u8]) -> usize
-    requires { ⌜ (length (now s) ≡ imageBytes) × (b ≡ blockOf (now s)) × (f .id .0 < 536870912) × (n ≤ 32) × (8 * n ≤ length (now list)) ⌝ }
-    ensures { λ r. ⌜ Put (now (list .entry)) 0 (listBytes (linesBelow (reasonBy (now (s .entry)) f) n)) (now (list .exit)) r ⌝ }
+// The lines of a heard frame, at the front of bytes that have room for any: up to the first mailbox that matched.
+fn put_lines(s: &[u8], b: Block, f: Frame, list: &mut [u8]) -> usize
+    requires { ⌜ (length (now s) ≡ imageBytes) × (b ≡ blockOf (now s)) × (f .id .0 < 536870912) × (256 ≤ length (now list)) ⌝ }
+    ensures { λ r. ⌜ Put (now (list .entry)) 0 (listBytes (lines (reasonBy (now (s .entry)) f))) (now (list .exit)) r ⌝ }
 {
     let mut at: usize = 0;
-    let mut k: u32 = 0;
-    while k < n {
-        let reason = reason_at(s, b, f, k);
+    let mut n: u32 = 0;
+    while n < 32 {
+        let reason = reason_at(s, b, f, n);
         at = put_line(
             list,
             at,
             Line {
-                mailbox: k as u8,
+                mailbox: n as u8,
                 reason,
             },
         );
-        k += 1;
+        if number(reason) == 5 {
+            return at;
+        }
+        n += 1;
     }
     at
 }
 
-// How many lines a heard frame has: up to where the search of the step stops.
-fn line_count(s: &[u8], b: Block, f: Frame) -> u32
-    requires { ⌜ (length (now s) ≡ imageBytes) × (b ≡ blockOf (now s)) × (f .id .0 < 536870912) ⌝ }
-    ensures { λ r. ⌜ (r ≡ linesTo (firstBelow (λ n. isMatched (reasonBy (now (s .entry)) f n)) 32)) × (r ≤ 32) ⌝ }
+// The line of a frame that is not heard.
+fn put_unheard(b: Block, list: &mut [u8]) -> usize
+    requires { ⌜ (b .mode ≤ 3) × (8 ≤ length (now list)) ⌝ }
+    ensures { λ r. ⌜ Put (now (list .entry)) 0 (listBytes (unheard (b .mode) (busOff b))) (now (list .exit)) r ⌝ }
 {
-    match filter::find(s, b, f) {
-        Found::At { mailbox, count } => mailbox + 1,
-        Found::Missing { count } => 32,
-    }
-}
-
-// The lines of a heard frame, where they fit.
-fn tell_heard(s: &[u8], b: Block, f: Frame, list: &mut [u8]) -> u64
-    requires { ⌜ (length (now s) ≡ imageBytes) × (b ≡ blockOf (now s)) × (f .id .0 < 536870912) ⌝ }
-    ensures { λ r. ⌜ Fitted (length (lines (reasonBy (now (s .entry)) f))) (listBytes (lines (reasonBy (now (s .entry)) f))) (now (list .entry)) (now (list .exit)) r ⌝ }
-{
-    let n = line_count(s, b, f);
-    if list.len() < 8 * n as usize {
-        return answers::pack(9, 32, 0);
-    }
-    put_lines(s, b, f, n, list);
-    answers::pack(0, 32, n)
-}
-
-// The line of a frame that is not heard, where it fits.
-fn tell_unheard(b: Block, list: &mut [u8]) -> u64
-    requires { ⌜ b .mode ≤ 3 ⌝ }
-    ensures { λ r. ⌜ Fitted 1 (listBytes (unheard (b .mode) (busOff b))) (now (list .entry)) (now (list .exit)) r ⌝ }
-{
-    if list.len() < 8 {
-        return answers::pack(9, 32, 0);
-    }
     let state = bits::choose(b.is_bus_off(), 4, b.mode) as u8;
     let reason = Reason::NotHeard { state };
     put_line(
@@ -162,20 +137,30 @@ fn tell_unheard(b: Block, list: &mut [u8]) -> u64
             mailbox: 32,
             reason,
         },
-    );
-    answers::pack(0, 32, 1)
+    )
 }
 
 // The lines of a frame, heard or not.
+fn put_explanation(s: &[u8], f: Frame, list: &mut [u8]) -> usize
+    requires { ⌜ (length (now s) ≡ imageBytes) × (blockOf (now s) .mode ≤ 3) × (f .id .0 < 536870912) × (256 ≤ length (now list)) ⌝ }
+    ensures { λ r. ⌜ Put (now (list .entry)) 0 (listBytes (explainedBy (now (s .entry)) f)) (now (list .exit)) r ⌝ }
+{
+    let b = Block::load(s);
+    if b.is_on_bus() {
+        put_lines(s, b, f, list)
+    } else {
+        put_unheard(b, list)
+    }
+}
+
+// The same, where they fit. A mailbox has one line at most, so 256 bytes are room for any.
 fn tell(s: &[u8], f: Frame, list: &mut [u8]) -> u64
     requires { ⌜ (length (now s) ≡ imageBytes) × (blockOf (now s) .mode ≤ 3) × (f .id .0 < 536870912) ⌝ }
     ensures { λ r. ⌜ Fitted (length (explainedBy (now (s .entry)) f)) (listBytes (explainedBy (now (s .entry)) f)) (now (list .entry)) (now (list .exit)) r ⌝ }
 {
-    let b = Block::load(s);
-    if b.is_on_bus() {
-        return tell_heard(s, b, f, list);
-    }
-    tell_unheard(b, list)
+    let mut apart = [0u8; 256];
+    let end = put_explanation(s, f, &mut apart);
+    texts::tell(list, &apart[..end], (end / 8) as u32)
 }
 
 // Any bytes: the lines of the frame, or a refusal that writes nothing.

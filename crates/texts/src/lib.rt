@@ -3,6 +3,7 @@ ghost use mathlib.Core.Path.{_≡_};
 ghost use mathlib.Core.List.{[], _∷_};
 ghost use Prim.Native.Nat.{_+_, _%_, _<_, _≤_};
 ghost use lib.ListN.{length};
+ghost use Rattle.answers.specs.Answer.{Fitted};
 ghost use Rattle.texts.specs.Text.{Put, wordBytes, decimal, field};
 
 // One byte.
@@ -63,4 +64,16 @@ pub fn put_field(out: &mut [u8], at: usize, n: u64, end: u8) -> usize
 {
     let last = put_number(out, at, n);
     put(out, last, end)
+}
+
+// Document 02: a list that was made apart from the lent bytes, since a refusal writes nothing, goes to their front where it fits. The
+// answer of the whole call.
+pub fn tell(out: &mut [u8], list: &[u8], count: u32) -> u64
+    ensures { λ r. ⌜ Fitted count (now (list .entry)) (now (out .entry)) (now (out .exit)) r ⌝ }
+{
+    if out.len() < list.len() {
+        return answers::pack(9, 32, 0);
+    }
+    put_text(out, 0, list);
+    answers::pack(0, 32, count)
 }

@@ -1,58 +1,72 @@
-use Prim.Native.Nat.{_≤_}
-use mathlib.Core.Path.{sym, _∙_, ap, subst}
-use Rattle.registers.specs.declared.Block.{Block}
-use Rattle.registers.specs.Status.{busOff}
-use Rattle.registers.specs.Modes.{onBus}
-use Rattle.explain.specs.Explain.{unheard}
-use Rattle.explain.proofs.Lines.{same-fitted, heard-lines, unheard-lines}
+use Prim.Native.Nat.{_*_, _/_, _≤_}
+use mathlib.Core.Path.{_≡_, sym, _∙_, ap}
+use native.Mathlib.Omega.{arith}
+use lib.ListN.{length, take}
+use Rattle.answers.proofs.Lists.{fitted-as}
+use Rattle.texts.proofs.Writing.{front-of, kept}
+use Rattle.explain.specs.Explain.{listBytes}
+use Rattle.explain.specs.Terms.{explainedBy}
+use Rattle.explain.proofs.Lines.{text-length, explained-most}
 use borrow.Author.Needs.{needs}
 use Rattle.explain.proofs.tell.Statement.{statement}
 use Rattle.explain.proofs.tell.Tie as tie
 
-load-requires : tie.Need-load-requires
-load-requires c κs = search needs
+slice-aggregate-put-explanation : tie.Need-slice-aggregate-put-explanation
+slice-aggregate-put-explanation c = search needs
 
-is-on-bus-requires : tie.Need-is-on-bus-requires
-is-on-bus-requires c κs = search needs
+put-explanation-requires : tie.Need-put-explanation-requires
+put-explanation-requires c κs = search needs
 
-tell-heard-requires : tie.Need-tell-heard-requires
-tell-heard-requires c κs = search needs
+-- the lines that were made apart, and where they end
+ends : (c : tie.After-put-explanation) → c .put-explanation .result ≡ 8 * length (explainedBy (c .before .before .before .before .args .s .now) (c .before .before .before .before .args .f))
+ends c =
+    let a = c .before .before .before .before .args in
+    omega (arith, c .put-explanation .ensures .behind, text-length (explainedBy (a .s .now) (a .f)))
+
+most : (c : tie.After-put-explanation) → length (explainedBy (c .before .before .before .before .args .s .now) (c .before .before .before .before .args .f)) ≤ 32
+most c = explained-most (c .before .before .before .before .args .s .now) (c .before .before .before .before .args .f)
+
+apart : (c : tie.After-put-explanation) → take (c .put-explanation .result) (c .put-explanation .last .1 .1 .0) ≡ listBytes (explainedBy (c .before .before .before .before .args .s .now) (c .before .before .before .before .args .f))
+apart c =
+    let a = c .before .before .before .before .args in
+    front-of (omega (arith, text-length (explainedBy (a .s .now) (a .f)), most c)) (c .put-explanation .ensures)
+
+array-share-prefix-apart : tie.Need-array-share-prefix-apart
+array-share-prefix-apart c =
+    let w = c .before .before in
+    omega (arith, ends w, most w, kept (w .put-explanation .ensures))
+
+slice-aggregate-tell : tie.Need-slice-aggregate-tell
+slice-aggregate-tell c =
+    let w = c .before .before .before in
+    sym (ap length (apart w) ∙ text-length _ ∙ sym (ends w))
+
+cast-tell : tie.Need-cast-tell
+cast-tell c =
+    let w = c .before .before .before in
+    omega (arith, ends w, most w)
+
+tell-requires : tie.Need-tell-requires
+tell-requires c κs = search needs
 
 same-length : tie.Need-same-length
 same-length c = search needs
 
 returns : tie.Need-returns
 returns c =
-    let h = c .before .before .before .before in
-    let s = h .before .before .before .before .before .args in
-    let on = sym (ap onBus (h .before .before .load .ensures)) ∙ sym (h .before .is-on-bus .ensures) ∙ h .if1 .taken in
-    same-fitted (sym (heard-lines (s .s .now) (s .f) on)) (c .before .before .tell-heard .ensures)
-
-tell-unheard-requires : tie.Need-tell-unheard-requires
-tell-unheard-requires c κs =
-    let l = c .before .before .before in
-    subst (λ (b : Block). b .mode ≤ 3) (sym (l .load .ensures)) (l .before .before .before .pre .1)
-
-same-length-2 : tie.Need-same-length-2
-same-length-2 c = search needs
-
-returns-2 : tie.Need-returns-2
-returns-2 c =
-    let h = c .before .before .before .before in
-    let s = h .before .before .before .before .before .args in
-    let b = h .before .before .load .ensures in
-    let off = sym (ap onBus b) ∙ sym (h .before .is-on-bus .ensures) ∙ h .if1 .left in
-    same-fitted (ap (λ (x : Block). unheard (x .mode) (busOff x)) b ∙ sym (unheard-lines (s .s .now) (s .f) off)) (c .before .before .tell-unheard .ensures)
+    let w = c .before .before .before .before .before .before in
+    let n : w .put-explanation .result / 8 ≡ length (explainedBy (w .before .before .before .before .args .s .now) (w .before .before .before .before .args .f)) = omega (arith, ends w) in
+    fitted-as n (apart w) (c .before .before .tell .ensures)
 
 pub tell-spec : {M : Type 1} → statement M
 tell-spec =
     tie.close
     (tie.spec
-    load-requires
-    is-on-bus-requires
-    tell-heard-requires
+    slice-aggregate-put-explanation
+    put-explanation-requires
+    array-share-prefix-apart
+    slice-aggregate-tell
+    cast-tell
+    tell-requires
     same-length
-    returns
-    tell-unheard-requires
-    same-length-2
-    returns-2)
+    returns)
