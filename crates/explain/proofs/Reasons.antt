@@ -155,10 +155,10 @@ module _ (s : List ℕ) (f : Frame) (n : ℕ) where
       at i false q (no a) (no b) (yes e) = ap (bit d) e ∙ h
       at i false q (no a) (no b) (no c) = let l = ltb-false i 29 q in unseen s f n i (high s f n i (omega arith))
 
-  same-zero : isMatched (cond (bit d 31) IdeDiffers (highestBelow (bit d) 29)) ≡ eqb d 0
+  same-zero : isMatched (comparedReason (bit d)) ≡ eqb d 0
   same-zero = at (bit d 31) refl (isMatched (highestBelow (bit d) 29)) refl
     where
-      at : (t : Bool) → bit d 31 ≡ t → (u : Bool) → isMatched (highestBelow (bit d) 29) ≡ u → isMatched (cond (bit d 31) IdeDiffers (highestBelow (bit d) 29)) ≡ eqb d 0
+      at : (t : Bool) → bit d 31 ≡ t → (u : Bool) → isMatched (highestBelow (bit d) 29) ≡ u → isMatched (comparedReason (bit d)) ≡ eqb d 0
       at true h u m = rw h (sym (ne-eqb d 0 (λ z. false≢true (sym (bit-zero 31) ∙ ap (λ (x : ℕ). bit x 31) (sym z) ∙ h))))
       at false h true m = rw (h, m) (sym (eq-eqb d 0 (nothing h (same-all (bit d) 29 m))))
       at false h false m =
