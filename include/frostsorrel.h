@@ -198,7 +198,10 @@ enum {
     FROSTSORREL_NOT_HEARD = 6    /* no mailbox: the model takes no part on the bus */
 };
 
-/* In the place of the mode, where a frame is not heard: the model is in bus off. */
+/*
+ * In the place of the mode, where a frame is not heard: the model is in bus off. frostsorrel_mode_name does
+ * not know this one: its 4 is a waiting mode.
+ */
 enum { FROSTSORREL_IN_BUS_OFF = 4 };
 
 /* The levels of TEC and REC: above 96 is warning, above 127 is passive, and TEC 256 is bus off. */
@@ -325,23 +328,25 @@ uint64_t frostsorrel_compare(const uint8_t *first, size_t first_len, const uint8
                              size_t second_len, uint8_t *list, size_t list_len);
 
 /*
- * Explains why a frame lands where it does: for each mailbox, in the order of the search, why it is not the
- * one, up to the one that is. The image is only read: it stays the model before the frame.
+ * Explains why a frame lands where it does: of each mailbox, in the order of the search, why it is not the
+ * one, up to the one that is. The image is only read: it is the model before the frame.
  *
  * The event is a frame as frostsorrel_step takes it. A line is 8 bytes: mailbox, reason, bit, five zeros.
  * A frame that is heard (normal mode, TEC below 256) gets a line for mailbox 0, 1 and so on, disabled ones
  * too, up to and with the first that matches, where the search of a step stops; where none matches, for all
- * 32. Its reason is the first of these that holds:
+ * 32. The reason of a mailbox is the first of these that holds:
  *
- *   1  the mailbox is disabled
+ *   1  it is not enabled in MC
  *   2  it transmits, and the frame is a data frame
  *   3  IDE differs
- *   4  a compared bit of the identifier differs; `bit` is the highest such, 28 to 0 as in word 0
- *   5  matched
+ *   4  a bit of the identifier differs; `bit` is the highest such, by its number in word 0
+ *   5  none of these: it matched
  *
- * IDE or a bit that the mailbox's mask frees does not differ. Matched is also a transmit mailbox with RFH 0,
- * which ends the search though a step then answers mailbox 32. The lines with reasons 3, 4 and 5 are as many
- * as the step's count. But for reason 4, and 6 below, `bit` is 0.
+ * What is compared goes by the frame: bits 28 to 18 of the identifier if it is standard, 28 to 0 if it is
+ * extended. A mailbox whose word 0 has GAME does not differ where GAM (LAM for mailbox 31) has a 1: bits 28 to
+ * 0 of the mask free the same bits of the identifier, bit 31 frees IDE. Matched is also a transmit mailbox
+ * with RFH 0, which ends the search though a step then answers mailbox 32. The lines with reasons 3, 4 and 5
+ * are as many as the step's count. But for reason 4, and 6 below, `bit` is 0.
  *
  * A frame that is not heard gets one line: mailbox 32, reason 6, and in the place of the bit the mode, 1 to
  * 3, or 4 in bus off; asleep with WUBA too, where a step wakes the model. A mailbox in the slot does not
@@ -383,7 +388,7 @@ static inline uint32_t frostsorrel_identifier(uint32_t word)
     return word & FROSTSORREL_IDE ? identifier : identifier >> 18;
 }
 
-/* ---- events: each of these fills 16 bytes and answers them, for a call of frostsorrel_step */
+/* ---- events: each of these fills 16 bytes and answers them, for a call of frostsorrel_step or _explain */
 
 /*
  * Any event. Its data bytes become 0: what a data frame carries is put into event[8] and on
