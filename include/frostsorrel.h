@@ -348,15 +348,16 @@ uint64_t frostsorrel_compare(const uint8_t *first, size_t first_len, const uint8
  * with RFH 0, which ends the search though a step then answers mailbox 32. The lines with reasons 3, 4 and 5
  * are as many as the step's count. But for reason 4, and 6 below, `bit` is 0.
  *
- * A frame that is not heard gets one line: mailbox 32, reason 6, and in the place of the bit the mode, 1 to
- * 3, or 4 in bus off; asleep with WUBA too, where a step wakes the model. A mailbox in the slot does not
+ * Outside normal mode and in bus off no mailbox is asked. There is one line then: mailbox 32, reason 6, and in
+ * the place of the bit the mode, 1 to 3, or 4 in bus off; asleep with WUBA too, where a step wakes the model. A mailbox in the slot does not
  * matter: there is no refusal 5.
  *
  * The first line that applies decides:
  *
  *   the image is not good (a length other than 640 included)                        refusal 1
  *   event_len is not 16, or the operation is not 2                                  refusal 2
- *   an unused byte of the event is not 0, or its DLC or identifier is not allowed   refusal 4
+ *   an unused byte of the event is not 0, or its DLC or value is not allowed: all
+ *   for which a step answers 4                                                      refusal 4
  *   8 bytes for each line are more than list_len                                    refusal 9
  *
  * A refused call writes no byte and answers mailbox 32, count 0. Any other puts the lines at the front of
