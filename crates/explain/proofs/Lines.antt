@@ -24,17 +24,17 @@ use Rattle.rules.specs.Words.{among}
 use Rattle.explain.specs.declared.Reason.{Reason}
 use Rattle.explain.specs.declared.Reason.the-variants.{NotHeard}
 use Rattle.explain.specs.declared.Line.{Line}
-use Rattle.explain.specs.Explain.{number, linesBelow, isMatched, linesTo, lines, unheard, lineBytes, listBytes}
+use Rattle.explain.specs.Explain.{number, linesBelow, isMatched, lineCount, lines, unheard, lineBytes, listBytes}
 use Rattle.explain.specs.Terms.{reasonBy, explainedBy}
-use Rattle.explain.specs.Agreement.{IsTold, comparisons}
+use Rattle.explain.specs.Agreement.{IsTold, Numbered, wasCompared, comparisons}
 
 -- ---- bytes
 
-pub text-none : listBytes [] ≡ []
+text-none : listBytes [] ≡ []
 unfolding listBytes
 text-none = parts-none lineBytes
 
-pub text-one : (l : Line) → listBytes (l ∷ []) ≡ lineBytes l
+text-one : (l : Line) → listBytes (l ∷ []) ≡ lineBytes l
 unfolding listBytes
 text-one = parts-one lineBytes
 
@@ -101,11 +101,11 @@ module _ (r : ℕ → Reason) where
 
 -- ---- where they end
 
-pub ends-at : (n : ℕ) → n < 32 → linesTo n ≡ n + 1
-ends-at n l = rw (lt-ltb n 32 l) (sym (add-one n))
+pub ends-at : (n : ℕ) → n < 32 → lineCount n ≡ n + 1
+ends-at n l = rw (le-ltb 32 (suc n) (omega arith)) (sym (add-one n))
 
-pub ends-last : (n : ℕ) → 32 ≤ n → linesTo n ≡ 32
-ends-last n l = rw (le-ltb n 32 l)
+pub ends-last : (n : ℕ) → 32 ≤ n → lineCount n ≡ 32
+ends-last n l = rw (lt-ltb 32 (suc n) (omega arith))
 
 -- at the first mailbox that matched, or at the last
 module _ (r : ℕ → Reason) where
@@ -113,23 +113,23 @@ module _ (r : ℕ → Reason) where
   unfolding lines
   matched-ends n l h before =
       let e = first-by (λ k. isMatched (r k)) 32 n (record { most = omega arith; holds = λ m. h; none = before }) in
-      ap (linesBelow r) (ap linesTo e ∙ ends-at n l)
+      ap (linesBelow r) (ap lineCount e ∙ ends-at n l)
 
   pub none-ends : ((j : ℕ) → j < 32 → isMatched (r j) ≡ false) → lines r ≡ linesBelow r 32
   unfolding lines
   none-ends before =
       let e = first-by (λ k. isMatched (r k)) 32 32 (record { most = omega arith; holds = λ m. absurd (omega arith); none = before }) in
-      ap (linesBelow r) (ap linesTo e ∙ ends-last 32 (omega arith))
+      ap (linesBelow r) (ap lineCount e ∙ ends-last 32 (omega arith))
 
   -- 32 lines at most
   pub lines-most : length (lines r) ≤ 32
   unfolding lines
-  lines-most = omega (arith, below-length r (linesTo stop), at (ltb stop 32) refl)
+  lines-most = omega (arith, below-length r (lineCount stop), at (ltb stop 32) refl)
     where
       stop : ℕ
       stop = firstBelow (λ k. isMatched (r k)) 32
 
-      at : (t : Bool) → ltb stop 32 ≡ t → linesTo stop ≤ 32
+      at : (t : Bool) → ltb stop 32 ≡ t → lineCount stop ≤ 32
       at true q = let l = ltb-true stop 32 q in omega (arith, ends-at stop l)
       at false q = omega (arith, ends-last stop (ltb-false stop 32 q))
 
@@ -183,6 +183,17 @@ module _ (r : ℕ → Reason) (n : ℕ) (why : Reason) where
       at (yes q) go = told-right n why (linesBelow r k) (record { mailbox = k; reason = r k } ∷ []) (inl (sym q, ap r (sym q) ∙ e))
       at (no d) go = told-left n why (linesBelow r k) (record { mailbox = k; reason = r k } ∷ []) (go (omega arith))
 
+-- ---- their order
+
+numbered-more : (k : ℕ) (ls : List Line) (l : Line) → Numbered k ls → l .mailbox ≡ k + length ls → Numbered k (ls ++ (l ∷ []))
+numbered-more k [] l p e = (omega (arith, e), tt)
+numbered-more k (m ∷ ls) l p e = (p .0, numbered-more (k + 1) ls l (p .1) (omega (arith, e)))
+
+pub numbered-below : (r : ℕ → Reason) (n : ℕ) → Numbered 0 (linesBelow r n)
+unfolding linesBelow
+numbered-below r zero = tt
+numbered-below r (suc n) = numbered-more 0 (linesBelow r n) (record { mailbox = n; reason = r n }) (numbered-below r n) (omega (arith, below-length r n))
+
 -- ---- the lines of compared mailboxes
 
 comparisons-both : (ls ms : List Line) → comparisons (ls ++ ms) ≡ comparisons ls + comparisons ms
@@ -190,7 +201,7 @@ unfolding comparisons
 comparisons-both [] ms = omega arith
 comparisons-both (l ∷ ls) ms = omega (arith, comparisons-both ls ms)
 
-pub comparisons-below : (r : ℕ → Reason) (n : ℕ) → comparisons (linesBelow r n) ≡ countBelow (λ k. among (number (r k)) (3 ∷ 4 ∷ 5 ∷ [])) n
+pub comparisons-below : (r : ℕ → Reason) (n : ℕ) → comparisons (linesBelow r n) ≡ countBelow (λ k. wasCompared (r k)) n
 unfolding linesBelow comparisons countBelow
 comparisons-below r zero = refl
 comparisons-below r (suc n) =

@@ -23,46 +23,47 @@ use Rattle.rules.specs.Receiving.{matters, freed, compared}
 use Rattle.rules.proofs.Receiving.{freed-same, frame-same}
 use Rattle.explain.specs.declared.Reason.{Reason}
 use Rattle.explain.specs.declared.Reason.the-variants.{Disabled, Transmits, IdeDiffers, BitDiffers, Matched, NotHeard}
-use Rattle.explain.specs.Explain.{number, differs, highestBelow, comparedReason, firstReason, reason, isMatched}
+use Rattle.explain.specs.Explain.{number, differs, bitReason, comparedReason, firstReason, reason, isMatched}
 use Rattle.explain.specs.Terms.{reasonBy}
+use Rattle.explain.specs.Agreement.{wasCompared}
 
 -- ---- the highest bit that differs
 
 module _ (p : ℕ → Bool) where
   -- none differs
-  pub all-same : (k : ℕ) → ((i : ℕ) → i < k → p i ≡ false) → highestBelow p k ≡ Matched
-  unfolding highestBelow
+  all-same : (k : ℕ) → ((i : ℕ) → i < k → p i ≡ false) → bitReason p k ≡ Matched
+  unfolding bitReason
   all-same zero h = refl
   all-same (suc k) h = rw (h k (omega arith)) (all-same k (λ i l. h i (omega arith)))
 
-  pub same-all : (k : ℕ) → isMatched (highestBelow p k) ≡ true → (i : ℕ) → i < k → p i ≡ false
-  unfolding highestBelow
+  same-all : (k : ℕ) → isMatched (bitReason p k) ≡ true → (i : ℕ) → i < k → p i ≡ false
+  unfolding bitReason
   same-all zero h i l = absurd (omega arith)
   same-all (suc k) h i l = at (p k) refl h (ℕ-discrete i k) (λ m. same-all k m i)
     where
-      at : (t : Bool) → p k ≡ t → isMatched (cond t (BitDiffers k) (highestBelow p k)) ≡ true → Dec (i ≡ k)
-          → (isMatched (highestBelow p k) ≡ true → i < k → p i ≡ false) → p i ≡ false
+      at : (t : Bool) → p k ≡ t → isMatched (cond t (BitDiffers k) (bitReason p k)) ≡ true → Dec (i ≡ k)
+          → (isMatched (bitReason p k) ≡ true → i < k → p i ≡ false) → p i ≡ false
       at true q m d go = absurd (false≢true m)
       at false q m (yes e) go = ap p e ∙ q
       at false q m (no d) go = go m (omega arith)
 
   -- one does, and none above it
-  pub highest-is : (k i : ℕ) → i < k → p i ≡ true → ((j : ℕ) → i < j → p j ≡ false) → highestBelow p k ≡ BitDiffers i
-  unfolding highestBelow
+  highest-is : (k i : ℕ) → i < k → p i ≡ true → ((j : ℕ) → i < j → p j ≡ false) → bitReason p k ≡ BitDiffers i
+  unfolding bitReason
   highest-is zero i l u a = absurd (omega arith)
   highest-is (suc k) i l u a = at (ℕ-discrete i k) (λ m. highest-is k i m u a)
     where
-      at : Dec (i ≡ k) → (i < k → highestBelow p k ≡ BitDiffers i) → cond (p k) (BitDiffers k) (highestBelow p k) ≡ BitDiffers i
+      at : Dec (i ≡ k) → (i < k → bitReason p k ≡ BitDiffers i) → cond (p k) (BitDiffers k) (bitReason p k) ≡ BitDiffers i
       at (yes e) go = rw (← e, u)
       at (no d) go = rw (a k (omega arith)) (go (omega arith))
 
-  pub is-highest : (k i : ℕ) → highestBelow p k ≡ BitDiffers i → (i < k) × (p i ≡ true) × ((j : ℕ) → i < j → j < k → p j ≡ false)
-  unfolding highestBelow
+  is-highest : (k i : ℕ) → bitReason p k ≡ BitDiffers i → (i < k) × (p i ≡ true) × ((j : ℕ) → i < j → j < k → p j ≡ false)
+  unfolding bitReason
   is-highest zero i h = let z : _≡_ {A = ℕ} 0 1 = cc in absurd (omega arith)
   is-highest (suc k) i h = at (p k) refl h (is-highest k i)
     where
-      at : (t : Bool) → p k ≡ t → cond t (BitDiffers k) (highestBelow p k) ≡ BitDiffers i
-          → (highestBelow p k ≡ BitDiffers i → (i < k) × (p i ≡ true) × ((j : ℕ) → i < j → j < k → p j ≡ false))
+      at : (t : Bool) → p k ≡ t → cond t (BitDiffers k) (bitReason p k) ≡ BitDiffers i
+          → (bitReason p k ≡ BitDiffers i → (i < k) × (p i ≡ true) × ((j : ℕ) → i < j → j < k → p j ≡ false))
           → (i < suc k) × (p i ≡ true) × ((j : ℕ) → i < j → j < suc k → p j ≡ false)
       at true q m go =
           let e : i ≡ k = cc in
@@ -77,12 +78,12 @@ module _ (p : ℕ → Bool) where
           above j n o (no d) f = f (omega arith)
 
   -- either way the mailbox was compared
-  pub was-compared : (k : ℕ) → among (number (highestBelow p k)) (3 ∷ 4 ∷ 5 ∷ []) ≡ true
-  unfolding highestBelow
+  was-compared : (k : ℕ) → wasCompared (bitReason p k) ≡ true
+  unfolding bitReason
   was-compared zero = refl
   was-compared (suc k) = at (p k) (was-compared k)
     where
-      at : (t : Bool) → among (number (highestBelow p k)) (3 ∷ 4 ∷ 5 ∷ []) ≡ true → among (number (cond t (BitDiffers k) (highestBelow p k))) (3 ∷ 4 ∷ 5 ∷ []) ≡ true
+      at : (t : Bool) → wasCompared (bitReason p k) ≡ true → wasCompared (cond t (BitDiffers k) (bitReason p k)) ≡ true
       at true h = refl
       at false h = h
 
@@ -117,7 +118,7 @@ module _ (s e : List ℕ) (n : ℕ) where
   none true z = refl
   none false z = refl
 
-  pub same-differs : (i : ℕ) → bit (differingAt s (frameOf e) n) i ≡ differs s e n i
+  same-differs : (i : ℕ) → bit (differingAt s (frameOf e) n) i ≡ differs s e n i
   unfolding frameOf
   same-differs i =
       seen (blockOf s) (frameOf e) n (box s n 0) i
@@ -135,7 +136,7 @@ module _ (s e : List ℕ) (n : ℕ) where
 -- so are its reasons
 pub same-reasons : (s e : List ℕ) → reasonBy s (frameOf e) ≡ reason s e
 unfolding frameOf blockOf wordsOf
-same-reasons s e = λ i n. firstReason (words s MC has n) (rtr e || words s MD has n) (λ k. same-differs s e n k i)
+same-reasons s e = λ i n. firstReason (not (words s MC has n)) (not (rtr e || words s MD has n)) (λ k. same-differs s e n k i)
 
 -- ---- what a reason says of the search
 
@@ -156,9 +157,9 @@ module _ (s : List ℕ) (f : Frame) (n : ℕ) where
       at i false q (no a) (no b) (no c) = let l = ltb-false i 29 q in unseen s f n i (high s f n i (omega arith))
 
   same-zero : isMatched (comparedReason (bit d)) ≡ eqb d 0
-  same-zero = at (bit d 31) refl (isMatched (highestBelow (bit d) 29)) refl
+  same-zero = at (bit d 31) refl (isMatched (bitReason (bit d) 29)) refl
     where
-      at : (t : Bool) → bit d 31 ≡ t → (u : Bool) → isMatched (highestBelow (bit d) 29) ≡ u → isMatched (comparedReason (bit d)) ≡ eqb d 0
+      at : (t : Bool) → bit d 31 ≡ t → (u : Bool) → isMatched (bitReason (bit d) 29) ≡ u → isMatched (comparedReason (bit d)) ≡ eqb d 0
       at true h u m = rw h (sym (ne-eqb d 0 (λ z. false≢true (sym (bit-zero 31) ∙ ap (λ (x : ℕ). bit x 31) (sym z) ∙ h))))
       at false h true m = rw (h, m) (sym (eq-eqb d 0 (nothing h (same-all (bit d) 29 m))))
       at false h false m =
@@ -172,20 +173,20 @@ module _ (s : List ℕ) (f : Frame) (n : ℕ) where
   unfolding hits matches
   matched-hits = at (bit (blockOf s .mc) n) (f .rtr || bit (blockOf s .md) n) ∙ ap (λ (x : Bool). x && eqb d 0) (sym (candidate-bit (blockOf s) f n))
     where
-      at : (t u : Bool) → isMatched (firstReason t u (bit d)) ≡ ((t && u) && eqb d 0)
+      at : (t u : Bool) → isMatched (firstReason (not t) (not u) (bit d)) ≡ ((t && u) && eqb d 0)
       at true true = same-zero
       at true false = refl
       at false u = refl
 
 -- its line is counted exactly where it was compared
-pub counts-compared : (s e : List ℕ) (n : ℕ) → among (number (reason s e n)) (3 ∷ 4 ∷ 5 ∷ []) ≡ compared s e n
+pub counts-compared : (s e : List ℕ) (n : ℕ) → wasCompared (reason s e n) ≡ compared s e n
 counts-compared s e n = at (words s MC has n) (rtr e || words s MD has n)
   where
-    below : (t : Bool) → among (number (cond t IdeDiffers (highestBelow (differs s e n) 29))) (3 ∷ 4 ∷ 5 ∷ []) ≡ true
+    below : (t : Bool) → wasCompared (cond t IdeDiffers (bitReason (differs s e n) 29)) ≡ true
     below true = refl
     below false = was-compared (differs s e n) 29
 
-    at : (t u : Bool) → among (number (firstReason t u (differs s e n))) (3 ∷ 4 ∷ 5 ∷ []) ≡ (t && u)
+    at : (t u : Bool) → wasCompared (firstReason (not t) (not u) (differs s e n)) ≡ (t && u)
     at true true = below (differs s e n 31)
     at true false = refl
     at false u = refl
@@ -200,18 +201,18 @@ is-matched Matched h = refl
 is-matched (NotHeard m) h = absurd (false≢true h)
 
 -- the bit that is named
-pub named-bit : (enabled receives : Bool) (p : ℕ → Bool) (i : ℕ) → firstReason enabled receives p ≡ BitDiffers i
+pub named-bit : (disabled transmits : Bool) (p : ℕ → Bool) (i : ℕ) → firstReason disabled transmits p ≡ BitDiffers i
     → (i < 29) × (p i ≡ true) × ((j : ℕ) → i < j → j < 29 → p j ≡ false)
-named-bit true true p i h = at (p 31) h
+named-bit false false p i h = at (p 31) h
   where
-    at : (t : Bool) → cond t IdeDiffers (highestBelow p 29) ≡ BitDiffers i → (i < 29) × (p i ≡ true) × ((j : ℕ) → i < j → j < 29 → p j ≡ false)
+    at : (t : Bool) → cond t IdeDiffers (bitReason p 29) ≡ BitDiffers i → (i < 29) × (p i ≡ true) × ((j : ℕ) → i < j → j < 29 → p j ≡ false)
     at true q = let z : _≡_ {A = ℕ} 0 1 = cc in absurd (omega arith)
     at false q = is-highest p 29 i q
-named-bit true false p i h = let z : _≡_ {A = ℕ} 0 1 = cc in absurd (omega arith)
-named-bit false u p i h = let z : _≡_ {A = ℕ} 0 1 = cc in absurd (omega arith)
+named-bit false true p i h = let z : _≡_ {A = ℕ} 0 1 = cc in absurd (omega arith)
+named-bit true u p i h = let z : _≡_ {A = ℕ} 0 1 = cc in absurd (omega arith)
 
 -- the highest bit of a word that differs, where neither IDE nor bits 30 and 29 do
-pub by-highest : (d i : ℕ) → d < 2 ^ 32 → bit d 31 ≡ false → bit d 30 ≡ false → bit d 29 ≡ false → Highest d i → (i < 29) × (highestBelow (bit d) 29 ≡ BitDiffers i)
+pub by-highest : (d i : ℕ) → d < 2 ^ 32 → bit d 31 ≡ false → bit d 30 ≡ false → bit d 29 ≡ false → Highest d i → (i < 29) × (bitReason (bit d) 29 ≡ BitDiffers i)
 by-highest d i small a b c h = let l = at (ltb i 29) refl (ltb i 32) refl (ℕ-discrete i 29) (ℕ-discrete i 30) in (l, highest-is (bit d) 29 i l (h .up) (h .above))
   where
     not-up : (k : ℕ) → bit d k ≡ false → i ≡ k → i < 29
@@ -230,7 +231,7 @@ module _ (p : ℕ → Bool) where
   pub by-ide : p 31 ≡ true → comparedReason p ≡ IdeDiffers
   by-ide h = rw h
 
-  pub by-bits : p 31 ≡ false → comparedReason p ≡ highestBelow p 29
+  pub by-bits : p 31 ≡ false → comparedReason p ≡ bitReason p 29
   by-bits h = rw h
 
 pub by-none : (d : ℕ) → d ≡ 0 → comparedReason (bit d) ≡ Matched

@@ -5,11 +5,10 @@ use mathlib.Core.Path.{_≡_}
 use mathlib.Core.Bool.{Bool, cond, not, xor, _&&_, _||_}
 use mathlib.Core.List.{List, [], _∷_, _++_, flatMap}
 use mathlib.Core.Logic.{_≢_}
-use lib.Dec.{ltb}
 use lib.ListN.{length}
 use Rattle.bits.specs.Below.{firstBelow}
 use Rattle.answers.specs.Answer.{Refuses, Fitted}
-use Rattle.rules.specs.Words.{_has_, _is_, words, box, MC, MD, MODE}
+use Rattle.rules.specs.Words.{_has_, _is_, words, box, atMost, MC, MD, MODE}
 use Rattle.rules.specs.Image.{Good, busOff, onBus}
 use Rattle.rules.specs.Events.{operation, value, rtr, unused, bad}
 use Rattle.rules.specs.Receiving.{matters, freed}
@@ -17,7 +16,7 @@ use Rattle.explain.specs.declared.Reason.{Reason}
 use Rattle.explain.specs.declared.Reason.the-variants.{Disabled, Transmits, IdeDiffers, BitDiffers, Matched, NotHeard}
 use Rattle.explain.specs.declared.Line.{Line}
 
--- Why did it land there: the reasons by their numbers, and what a line says beside a reason: the number of a bit, or the mode (4 is bus off).
+-- Why did it land there: the reasons by their numbers; and the bit number of a line, which in a line of reason 6 is the mode, or 4 in bus off.
 abbrev pub number : Reason → ℕ
 number Disabled = 1
 number Transmits = 2
@@ -26,34 +25,35 @@ number (BitDiffers i) = 4
 number Matched = 5
 number (NotHeard m) = 6
 
-abbrev pub detail : Reason → ℕ
-detail Disabled = 0
-detail Transmits = 0
-detail IdeDiffers = 0
-detail (BitDiffers i) = i
-detail Matched = 0
-detail (NotHeard m) = m
+abbrev pub bitNumber : Reason → ℕ
+bitNumber Disabled = 0
+bitNumber Transmits = 0
+bitNumber IdeDiffers = 0
+bitNumber (BitDiffers i) = i
+bitNumber Matched = 0
+bitNumber (NotHeard m) = m
 
--- Why did it land there: does mailbox n differ from the frame in bit i of word 0? The bit is compared, its mask does not free it, and it is not
--- the same in both.
+-- Why did it land there: does mailbox n differ from the frame in bit i of word 0? The bit is compared, the mailbox's mask does not free it, and it is
+-- not the same in both.
 abbrev pub differs : List ℕ → List ℕ → ℕ → ℕ → Bool
 differs s e n i = matters e i && not (freed s n i) && xor (box s n 0 has i) (value e has i)
 
 -- Why did it land there: of a compared mailbox, IDE (bit 31) differs; else a bit of the identifier (28 to 0) does, and the highest is named;
 -- else it matched.
-unfoldable pub highestBelow : (ℕ → Bool) → ℕ → Reason
-highestBelow different zero = Matched
-highestBelow different (suc i) = cond (different i) (BitDiffers i) (highestBelow different i)
+unfoldable pub bitReason : (ℕ → Bool) → ℕ → Reason
+bitReason different zero = Matched
+bitReason different (suc i) = cond (different i) (BitDiffers i) (bitReason different i)
 
 abbrev pub comparedReason : (ℕ → Bool) → Reason
-comparedReason different = cond (different 31) IdeDiffers (highestBelow different 29)
+comparedReason different = cond (different 31) IdeDiffers (bitReason different 29)
 
--- Why did it land there: the first reason that holds of a mailbox: it is disabled; it transmits and faces a data frame; else as compared.
+-- Why did it land there: the first reason that holds of a mailbox: it is disabled; it transmits, and the frame is no remote one; else as
+-- compared.
 abbrev pub firstReason : Bool → Bool → (ℕ → Bool) → Reason
-firstReason enabled receives different = cond (not enabled) Disabled (cond (not receives) Transmits (comparedReason different))
+firstReason disabled transmits different = cond disabled Disabled (cond transmits Transmits (comparedReason different))
 
 abbrev pub reason : List ℕ → List ℕ → ℕ → Reason
-reason s e n = firstReason (words s MC has n) (rtr e || words s MD has n) (differs s e n)
+reason s e n = firstReason (not (words s MC has n)) (not (rtr e || words s MD has n)) (differs s e n)
 
 -- Why did it land there: a line for each mailbox below n, in the order of the search, where r says the reasons.
 unfoldable pub linesBelow : (ℕ → Reason) → ℕ → List Line
@@ -64,11 +64,11 @@ linesBelow r (suc n) = linesBelow r n ++ (record { mailbox = n; reason = r n } �
 abbrev pub isMatched : Reason → Bool
 isMatched why = number why is 5
 
-abbrev pub linesTo : ℕ → ℕ
-linesTo n = cond (ltb n 32) (suc n) 32
+abbrev pub lineCount : ℕ → ℕ
+lineCount n = atMost 32 (suc n)
 
 unfoldable pub lines : (ℕ → Reason) → List Line
-lines r = linesBelow r (linesTo (firstBelow (λ n. isMatched (r n)) 32))
+lines r = linesBelow r (lineCount (firstBelow (λ n. isMatched (r n)) 32))
 
 -- Why did it land there: a frame that is not heard has one line, which says the mode, or 4 in bus off.
 abbrev pub unheard : ℕ → Bool → List Line
@@ -77,21 +77,21 @@ unheard mode off = record { mailbox = 32; reason = NotHeard (cond off 4 mode) } 
 unfoldable pub explained : List ℕ → List ℕ → List Line
 explained s e = cond (onBus (words s)) (lines (reason s e)) (unheard (words s MODE) (busOff (words s)))
 
--- Why did it land there: a line is eight bytes: the mailbox, the reason, what is said beside it, five zeros.
+-- Why did it land there: a line is eight bytes: the mailbox, the reason, the bit number, five zeros.
 abbrev pub lineBytes : Line → List ℕ
-lineBytes l = l .mailbox ∷ number (l .reason) ∷ detail (l .reason) ∷ 0 ∷ 0 ∷ 0 ∷ 0 ∷ 0 ∷ []
+lineBytes l = l .mailbox ∷ number (l .reason) ∷ bitNumber (l .reason) ∷ 0 ∷ 0 ∷ 0 ∷ 0 ∷ 0 ∷ []
 
 unfoldable pub listBytes : List Line → List ℕ
 listBytes ls = flatMap lineBytes ls
 
--- Why did it land there, refusals of the event: 2 where it is not 16 bytes or no frame, then 4 as a step would give it; 0 is none. What is in
--- the slot does not matter, so there is no 5.
-abbrev pub refusal : List ℕ → List ℕ → ℕ
-refusal s e = cond (not (length e is 16 && operation e is 2)) 2 (cond (unused 2 e || bad 2 e) 4 0)
+-- Why did it land there, refusals of the event: 2 where it is not 16 bytes or no frame, then 4 as a step would give it; 0 is none. The image
+-- has no part in it: what is in the slot does not matter, and there is no 5.
+abbrev pub refusal : List ℕ → ℕ
+refusal e = cond (not (length e is 16 && operation e is 2)) 2 (cond (unused 2 e || bad 2 e) 4 0)
 
 -- Why did it land there, the call: refused with 1 unless the image is good, then by the event; else the lines are written, where they fit the
 -- lent bytes o.
 pub record ExplainCall (s e o exit : List ℕ) (answer : ℕ) : Type 0 where
   pub bad-image : (Good s → ⊥) → Refuses 1 o exit answer
-  pub bad-event : Good s → refusal s e ≢ 0 → Refuses (refusal s e) o exit answer
-  pub told : Good s → refusal s e ≡ 0 → Fitted (length (explained s e)) (listBytes (explained s e)) o exit answer
+  pub bad-event : Good s → refusal e ≢ 0 → Refuses (refusal e) o exit answer
+  pub told : Good s → refusal e ≡ 0 → Fitted (length (explained s e)) (listBytes (explained s e)) o exit answer

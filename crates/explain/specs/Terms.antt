@@ -1,6 +1,6 @@
 -- Why a frame lands where it does: terms for the contracts of the code, which has loaded a block and a frame. The rule itself is in Explain.
 use Prim.Native.Nat.{ℕ}
-use mathlib.Core.Bool.{cond, _||_}
+use mathlib.Core.Bool.{cond, not, _||_}
 use mathlib.Core.List.{List}
 use Rattle.bits.specs.Bit.{bit}
 use Rattle.registers.specs.Block.{blockOf}
@@ -16,7 +16,7 @@ use Rattle.explain.specs.Explain.{firstReason, lines, unheard}
 -- The reason of mailbox n, and the lines.
 abbrev pub reasonBy : List ℕ → Frame → ℕ → Reason
 reasonBy s f n =
-    firstReason (bit (blockOf s .mc) n) (f .rtr || bit (blockOf s .md) n) (bit (differing (maskFor (blockOf s) n) f (mailboxWord s n 0)))
+    firstReason (not (bit (blockOf s .mc) n)) (not (f .rtr || bit (blockOf s .md) n)) (bit (differing (maskFor (blockOf s) n) f (mailboxWord s n 0)))
 
 abbrev pub explainedBy : List ℕ → Frame → List Line
 explainedBy s f = cond (onBus (blockOf s)) (lines (reasonBy s f)) (unheard (blockOf s .mode) (busOff (blockOf s)))

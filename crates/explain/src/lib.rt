@@ -8,7 +8,7 @@ ghost use Rattle.registers.specs.Block.{imageBytes, blockOf};
 ghost use Rattle.registers.specs.Status.{busOff};
 ghost use Rattle.texts.specs.Text.{Put};
 ghost use Rattle.answers.specs.Answer.{Fitted};
-ghost use Rattle.explain.specs.Explain.{number as numberOf, detail as detailOf, comparedReason, lines, unheard, lineBytes, listBytes, ExplainCall};
+ghost use Rattle.explain.specs.Explain.{number as numberOf, bitNumber as bitNumberOf, comparedReason, lines, unheard, lineBytes, listBytes, ExplainCall};
 ghost use Rattle.explain.specs.Terms.{reasonBy, explainedBy};
 use events::Frame;
 use registers::Block;
@@ -42,9 +42,9 @@ fn number(why: Reason) -> u8
     }
 }
 
-// What a line says beside the reason.
-fn detail(why: Reason) -> u8
-    ensures { λ r. ⌜ r ≡ detailOf why ⌝ }
+// The bit number of a line, or the state in its place.
+fn bit_number(why: Reason) -> u8
+    ensures { λ r. ⌜ r ≡ bitNumberOf why ⌝ }
 {
     match why {
         Reason::Disabled => 0,
@@ -87,13 +87,13 @@ fn reason_at(s: &[u8], b: Block, f: Frame, n: u32) -> Reason
     judge(filter::differing(mask, f, mailboxes::word(s, n as usize, 0)))
 }
 
-// Two words: mailbox, reason and what is said beside it, in three bytes of the first; zeros.
+// Two words: mailbox, reason and bit number in three bytes of the first, and zeros.
 fn put_line(list: &mut [u8], at: usize, l: Line) -> usize
     requires { ⌜ at + 8 ≤ length (now list) ⌝ }
     ensures { λ r. ⌜ Put (now (list .entry)) at (lineBytes l) (now (list .exit)) r ⌝ }
 {
     let why = l.reason;
-    let first = l.mailbox as u32 + 256 * (number(why) as u32) + 65536 * (detail(why) as u32);
+    let first = l.mailbox as u32 + 256 * (number(why) as u32) + 65536 * (bit_number(why) as u32);
     let rest = texts::put_word(list, at, first);
     texts::put_word(list, rest, 0)
 }

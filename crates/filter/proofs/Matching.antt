@@ -9,7 +9,7 @@ use lib.Dec.{eqb, ltb, leb}
 use lib.Bits.{bitAnd, bitXor}
 use lib.Pow.{pow-pos, shr-shr, field, mod-mod-pow}
 use borrow.Author.Tests.{eqb-true, eq-eqb, ne-eqb, lt-ltb, le-ltb, ltb-true, ltb-false, leb-true, le-leb, not-true}
-use Rattle.bits.specs.Bit.{digit, bit, without, flag}
+use Rattle.bits.specs.Bit.{digit, bit, flag}
 use Rattle.bits.specs.Below.{allBelow}
 use Rattle.bits.proofs.Laws.{bit-and, bit-or, bit-xor, bit-without, bit-zero, bit-high, bit-flag, same-bits, same-below, or-below, flag-above}
 use Rattle.bits.proofs.Sets.{and-l, and-r}

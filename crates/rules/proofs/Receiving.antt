@@ -109,7 +109,7 @@ module _ (s e : List ℕ) where
         before = λ m l q r. false≢true (sym (p .none-before m l (compared-same m ∙ q)) ∙ same-match m r);
       }
 
-  pub first-one : (n m : ℕ) → First s e n → First s e m → n ≡ m
+  first-one : (n m : ℕ) → First s e n → First s e m → n ≡ m
   first-one n m p q = at (decLt n m) (decLt m n)
     where
       at : Dec (n < m) → Dec (m < n) → n ≡ m
@@ -120,7 +120,7 @@ module _ (s e : List ℕ) where
   pub missed : (c : ℕ) → Passed s f c → (n : ℕ) → First s e n → ⊥
   missed c p n q = false≢true (sym (p .none n (q .there) (compared-same n ∙ q .compares)) ∙ same-match n (q .matches))
 
-  pub count-same : (n : ℕ) → comparedBelow s f n ≡ countTo s e n
+  count-same : (n : ℕ) → comparedBelow s f n ≡ countTo s e n
   unfolding countBelow
   count-same zero = refl
   count-same (suc n) = rw (count-same n, compared-same n)

@@ -4,7 +4,7 @@ use mathlib.Core.Bool.{false}
 use native.Mathlib.Omega.{arith}
 use Rattle.bits.specs.Bit.{bit}
 use Rattle.explain.specs.declared.Reason.the-variants.{BitDiffers}
-use Rattle.explain.specs.Explain.{highestBelow}
+use Rattle.explain.specs.Explain.{bitReason}
 use Rattle.explain.proofs.Reasons.{by-highest, by-ide, by-bits, by-none}
 use borrow.Author.Needs.{needs}
 use Rattle.explain.proofs.judge.Statement.{statement}
@@ -14,7 +14,7 @@ use Rattle.explain.proofs.judge.Tie as tie
 same-format : (c : tie.Else2) → bit (c .before .before .before .args .differing) 31 ≡ false
 same-format c = sym (c .before .test .ensures) ∙ c .if2 .left
 
-named : (c : tie.After-highest) → (c .highest .result < 29) × (highestBelow (bit (c .before .before .before .before .args .differing)) 29 ≡ BitDiffers (c .highest .result))
+named : (c : tie.After-highest) → (c .highest .result < 29) × (bitReason (bit (c .before .before .before .before .args .differing)) 29 ≡ BitDiffers (c .highest .result))
 named c =
     let a = c .before .before .before .before in
     by-highest (a .args .differing) (c .highest .result) (a .fits .differing .fits) (same-format (c .before)) (a .pre .0) (a .pre .1) (c .highest .ensures)

@@ -23,8 +23,8 @@ mul-first c = search needs
 add-first : tie.Need-add-first
 add-first c = search needs
 
-detail-requires : tie.Need-detail-requires
-detail-requires c κs = search needs
+bit-number-requires : tie.Need-bit-number-requires
+bit-number-requires c κs = search needs
 
 cast-first-3 : tie.Need-cast-first-3
 cast-first-3 c = search needs
@@ -52,10 +52,10 @@ returns c =
     let l = c .before .before .before .before .before .before .before .before .before .before .before .before .args .l in
     let m : l .mailbox < 256 = omega arith in
     let o : n .number .result < 256 = omega arith in
-    let p : d .detail .result < 256 = omega arith in
+    let p : d .bit-number .result < 256 = omega arith in
     as-text
-    (line-words (l .mailbox) (n .number .result) (d .detail .result) m o p
-    ∙ (λ i. l .mailbox ∷ n .number .ensures i ∷ d .detail .ensures i ∷ 0 ∷ 0 ∷ 0 ∷ 0 ∷ 0 ∷ []))
+    (line-words (l .mailbox) (n .number .result) (d .bit-number .result) m o p
+    ∙ (λ i. l .mailbox ∷ n .number .ensures i ∷ d .bit-number .ensures i ∷ 0 ∷ 0 ∷ 0 ∷ 0 ∷ 0 ∷ []))
     (both-put (w .put-word .ensures) (c .before .before .put-word2 .ensures))
 
 pub put-line-spec : {M : Type 1} → statement M
@@ -67,7 +67,7 @@ put-line-spec =
     cast-first-2
     mul-first
     add-first
-    detail-requires
+    bit-number-requires
     cast-first-3
     mul-first-2
     add-first-2
