@@ -50,7 +50,7 @@ extern "C" {
 enum {
     FROSTSORREL_ACCEPTED = 0,
     FROSTSORREL_BAD_IMAGE = 1,   /* the image is not good */
-    FROSTSORREL_UNKNOWN = 2,     /* no such operation, register, mailbox, word or outcome */
+    FROSTSORREL_UNKNOWN = 2,     /* no such operation, register, mailbox, word or outcome; no frame */
     FROSTSORREL_ASLEEP = 3,      /* not while the model sleeps */
     FROSTSORREL_NOT_ALLOWED = 4, /* an unused byte is not 0, or the value or the DLC is not allowed */
     FROSTSORREL_BUSY = 5,        /* something is being sent, or waits to be */
@@ -333,8 +333,8 @@ uint64_t frostsorrel_compare(const uint8_t *first, size_t first_len, const uint8
  *
  * The event is a frame as frostsorrel_step takes it. A line is 8 bytes: mailbox, reason, bit, five zeros.
  * A frame that is heard (normal mode, TEC below 256) gets a line for mailbox 0, 1 and so on, disabled ones
- * too, up to and with the first that matches, where the search of a step stops; where none matches, for all
- * 32. The reason of a mailbox is the first of these that holds:
+ * too, up to and with the first that gets reason 5, where the search of a step stops; where none does, for
+ * all 32. The reason of a line is the first of these that holds of its mailbox:
  *
  *   1  it is not enabled in MC
  *   2  it transmits, and the frame is a data frame
@@ -346,13 +346,14 @@ uint64_t frostsorrel_compare(const uint8_t *first, size_t first_len, const uint8
  * extended. A mailbox whose word 0 has GAME does not differ where GAM (LAM for mailbox 31) has a 1: bits 28 to
  * 0 of the mask free the same bits of the identifier, bit 31 frees IDE. Matched is also a transmit mailbox
  * with RFH 0, which ends the search though a step then answers mailbox 32. The lines with reasons 3, 4 and 5
- * are as many as the step's count. But for reason 4, and 6 below, `bit` is 0.
+ * are as many as the count of a step that takes the frame. But for reason 4, and 6 below, `bit` is 0.
  *
- * Outside normal mode and in bus off no mailbox is asked. There is one line then: mailbox 32, reason 6, and in
- * the place of the bit the mode, 1 to 3, or 4 in bus off; asleep with WUBA too, where a step wakes the model. A mailbox in the slot does not
- * matter: there is no refusal 5.
+ * Outside normal mode and in bus off no mailbox is asked. There is one line then: mailbox 32, reason 6, and
+ * in the place of the bit the mode, 1 to 3, or 4 in bus off; asleep with WUBA too, where a step wakes the
+ * model. A mailbox in the slot does not matter: there is no refusal 5, and the frame is explained as if the
+ * slot were empty.
  *
- * The first line that applies decides:
+ * The first of these that applies decides:
  *
  *   the image is not good (a length other than 640 included)                        refusal 1
  *   event_len is not 16, or the operation is not 2                                  refusal 2
