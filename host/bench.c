@@ -48,7 +48,6 @@ struct lists {
 };
 
 typedef uint64_t step_function(uint8_t *, size_t, const uint8_t *, size_t);
-typedef uint64_t list_function(const uint8_t *, size_t, const uint8_t *, size_t, uint8_t *, size_t);
 typedef void image_function(uint8_t *image);
 typedef size_t event_function(uint8_t *event, const uint8_t *image);
 typedef void pairs_function(struct pairs *p);
@@ -314,7 +313,7 @@ static void say_where(unsigned long rounds, unsigned long seed)
 int main(int argc, char **argv)
 {
     unsigned long rounds = argument(argc, argv, 1, 15), seed = argument(argc, argv, 2, 1);
-    double ratios[6], worst = 0;
+    double ratios[6], worst = 0; /* one for each stream */
 
     if (rounds == 0 || rounds > MOST_ROUNDS)
         rounds = MOST_ROUNDS;
@@ -326,7 +325,7 @@ int main(int argc, char **argv)
     ratios[3] = measure_pairs("few differ", draw_neighbours, frostsorrel_compare, reference_compare, rounds);
     ratios[4] = measure_pairs("most differ", draw_strangers, frostsorrel_compare, reference_compare, rounds);
     ratios[5] = measure_pairs("explained", draw_questions, frostsorrel_explain, reference_explain, rounds);
-    for (int i = 0; i < 6; i++)
+    for (size_t i = 0; i < sizeof ratios / sizeof ratios[0]; i++)
         worst = ratios[i] > worst ? ratios[i] : worst;
     printf("worst ratio %26.3f\n", worst);
     return report("host bench");

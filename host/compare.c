@@ -336,8 +336,6 @@ struct effect {
     uint64_t answer;
 };
 
-typedef uint64_t list_function(const uint8_t *, size_t, const uint8_t *, size_t, uint8_t *, size_t);
-
 /* What both do, each by a call of its own. */
 struct twins {
     const char *what;

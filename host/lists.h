@@ -4,6 +4,7 @@
 
 #include "check.h"
 #include "image.h"
+#include "reference.h"
 
 #define LONGEST_LIST (FROSTSORREL_DIFFERENCE_BYTES + 100)
 #define LONGEST_READ (BYTES + 1)
@@ -12,8 +13,6 @@
 /* Mailbox 32, and a count or a refusal. */
 #define ACCEPTED(count) (8192 + 65536 * (uint64_t)(count))
 #define REFUSED(refusal) (8192 + (uint64_t)(refusal))
-
-typedef uint64_t list_function(const uint8_t *, size_t, const uint8_t *, size_t, uint8_t *, size_t);
 
 struct call {
     const uint8_t *first, *second; /* one pointer twice is one image handed over twice */

@@ -19,6 +19,9 @@ uint64_t reference_compare(const uint8_t *first, size_t first_len, const uint8_t
 uint64_t reference_explain(const uint8_t *image, size_t image_len, const uint8_t *event, size_t event_len,
                            uint8_t *list, size_t list_len);
 
+/* The signature of comparing and explaining: two things to read are lent, and bytes for a list. */
+typedef uint64_t list_function(const uint8_t *, size_t, const uint8_t *, size_t, uint8_t *, size_t);
+
 #define LISTING_ROOM 39034 /* room for any listing (D80), and the 0 that C puts behind it */
 
 /* What the trace program prints for such a file, into a buffer of LISTING_ROOM. Answers its length. */

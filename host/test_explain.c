@@ -3,11 +3,11 @@
 #include "clauses.h"
 #include "events.h"
 #include "frostsorrel.h"
+#include "generate.h"
 #include "image.h"
 #include "lists.h"
 
 #define MOST FROSTSORREL_EXPLANATION_BYTES
-#define LONGEST_EVENT 24
 
 /* Word 0 of a mailbox and the value of a frame; of the two standard ones bit 18 alone differs. */
 #define STANDARD_123 0x048C0000u
