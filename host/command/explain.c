@@ -14,17 +14,21 @@ static const char help[] =
     "The first line names the file, the step, the frame and the answer. A line for each mailbox follows, behind two\n"
     "blanks: the first of these that holds, then the mailbox's identifier, and what of it decided:\n"
     "\n"
-    "  disabled                              MC does not enable it; it has no identifier here if word 0 is 0\n"
+    "  disabled                              MC does not enable it; its identifier is left out where word 0 is 0\n"
     "  transmits, and this is a data frame   it is compared with remote frames alone\n"
     "  IDE differs                           one is standard, the other extended\n"
     "  bit 24 of the identifier differs      the highest such bit, 28 to 0 as in word 0 of a mailbox; then the same\n"
-    "                                        bit as identifiers are written: 0x040 of a standard one\n"
+    "                                        bit of the identifier as it is written: 0x040 in 11 bits\n"
     "  matched                               and stored there, or asked to reply; with RFH 0 nothing comes of it, and\n"
     "                                        the search ends all the same\n"
     "\n"
     "What a mask frees does not differ. Mailboxes 0 to 30 have one mask, GAM, and mailbox 31 has LAM, each where bit 30\n"
     "of word 0 (GAME, LAME) is set. A line tells what the mask frees of the bits that the frame has, or that it would\n"
     "free the one that differs but is not used. A mailbox that stored a frame has the frame's identifier from then on.\n"
+    "\n"
+    "Bits are written in the measure of the frame's identifier: 11 bits, or 29 where it is extended. Where a mask frees\n"
+    "IDE and the mailbox is of the other kind, its identifier stands there in this measure too, as in\n"
+    "0x31A (0x0C680000 in 29 bits). Of a standard frame 11 bits are compared, whatever the mailbox has below them.\n"
     "\n"
     "A frame that was not heard has one line, which says why. One that was refused because a mailbox was being sent is\n"
     "explained as if none were, and the first line says that nothing of it happened.\n"
@@ -33,7 +37,7 @@ static const char help[] =
     "of the run finds a difference, which the report tells; 2 where it cannot be read, has no such step, or the step is\n"
     "no frame, or one that is not allowed.\n";
 
-/* The reason, and behind all of them in one column what is said beside it. */
+/* The reason, and in one column what is said beside it: only that of a match of which nothing comes is longer. */
 static void write_line(struct text *out, const struct run *r, int step, const struct explanation *e, size_t line)
 {
     const uint8_t *before = r->image[step - 1];

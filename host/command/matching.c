@@ -6,7 +6,7 @@
 
 /* A frame before a mailbox. */
 struct meeting {
-    uint32_t mailbox, word_0;
+    uint32_t word_0;   /* of the mailbox */
     uint32_t frame;    /* the value of the event */
     uint32_t compared; /* IDE, and as many bits of the identifier as the frame has */
     uint32_t mask;     /* what GAM, or LAM in mailbox 31, would free of these */
@@ -18,24 +18,43 @@ static struct meeting meeting_at(uint32_t mailbox, const uint8_t *before, const 
     uint32_t frame = frostsorrel_event_value(event);
     uint32_t number = mailbox == FROSTSORREL_MAILBOXES - 1 ? FROSTSORREL_LAM : FROSTSORREL_GAM;
     uint32_t identifier = frame & FROSTSORREL_IDE ? FROSTSORREL_IDENTIFIER_BITS : frostsorrel_standard(0x7FF);
-    struct meeting m = {mailbox, frostsorrel_mailbox_word(before, mailbox, 0), frame, FROSTSORREL_IDE | identifier, 0,
+    uint32_t compared = FROSTSORREL_IDE | identifier;
+    uint32_t mask = frostsorrel_register_word(before, number) & compared;
+    struct meeting m = {frostsorrel_mailbox_word(before, mailbox, 0), frame, compared, mask,
                         frostsorrel_register_name(number)};
 
-    m.mask = frostsorrel_register_word(before, number) & m.compared;
     return m;
 }
 
-/* "IDE and 0x00F": some of the compared bits, those of the identifier as the frame's is written. */
-static void say_part(struct text *t, const struct meeting *m, uint32_t bits)
+/* "0x040", "0x01000000": bits of the identifier in the measure of the frame's, 11 bits or 29. */
+static void say_bits(struct text *t, const struct meeting *m, uint32_t bits)
 {
     uint32_t is_extended = m->frame & FROSTSORREL_IDE, in_identifier = bits & FROSTSORREL_IDENTIFIER_BITS;
+
+    text_add(t, is_extended ? "0x%08lX" : "0x%03lX", wide(frostsorrel_identifier(is_extended | in_identifier)));
+}
+
+/* "IDE and 0x00F": some of the compared bits. */
+static void say_part(struct text *t, const struct meeting *m, uint32_t bits)
+{
+    uint32_t in_identifier = bits & FROSTSORREL_IDENTIFIER_BITS;
 
     if (!bits)
         text_add(t, "no bit");
     if (bits & FROSTSORREL_IDE)
         text_add(t, in_identifier ? "IDE and " : "IDE");
     if (in_identifier)
-        text_add(t, is_extended ? "0x%08lX" : "0x%03lX", wide(frostsorrel_identifier(is_extended | in_identifier)));
+        say_bits(t, m, bits);
+}
+
+/* " (0x0C680000 in 29 bits)": the identifier of a mailbox of the other kind, in the measure in which bits are told. */
+static void say_other_measure(struct text *t, const struct meeting *m)
+{
+    if (!((m->word_0 ^ m->frame) & FROSTSORREL_IDE))
+        return;
+    text_add(t, " (");
+    say_bits(t, m, m->word_0);
+    text_add(t, m->frame & FROSTSORREL_IDE ? " in 29 bits)" : " in 11 bits)");
 }
 
 static int is_masked(const struct meeting *m)
@@ -62,8 +81,9 @@ static void say_other_kind(struct text *t, const struct meeting *m)
 
 static void say_other_bit(struct text *t, const struct meeting *m, uint32_t bit)
 {
+    say_other_measure(t, m);
     text_add(t, ": ");
-    say_part(t, m, BIT(bit));
+    say_bits(t, m, BIT(bit));
     text_add(t, " is %lu here, %lu in the frame", wide(m->word_0 >> bit & 1), wide(m->frame >> bit & 1));
     if (is_masked(m)) {
         text_add(t, "; %s frees ", m->name);
@@ -77,6 +97,7 @@ static void say_match(struct text *t, const struct meeting *m)
 {
     uint32_t differing = (m->word_0 ^ m->frame) & m->compared;
 
+    say_other_measure(t, m);
     if (!differing) {
         text_add(t, ": as in the frame");
         return;
@@ -112,7 +133,7 @@ static const char *fate(const uint8_t *before, uint32_t mailbox, int is_refused)
         return is_refused ? "and would be stored there" : "and stored there";
     if (frostsorrel_mailbox_word(before, mailbox, 0) & FROSTSORREL_RFH)
         return is_refused ? "and would be asked to reply" : "and asked to reply";
-    return "RFH 0: nothing comes of it";
+    return "but RFH is 0: nothing comes of it";
 }
 
 static void say_silence(struct text *t, const uint8_t *before, uint32_t mode)

@@ -31,7 +31,8 @@ void say_line(struct text *t, const uint8_t *before, uint64_t answer, const uint
 
 /*
  * What one would look up next: the mailbox's identifier and what of it decided, its bits as the frame's identifier is
- * written: "0x718: 0x040 is 0 here, 1 in the frame; GAM frees 0x007", "0x718: differs in 0x002, which GAM frees".
+ * written: "0x718: 0x040 is 0 here, 1 in the frame; GAM frees 0x007", "0x718: differs in 0x002, which GAM frees"; the
+ * identifier too, where a mask frees IDE: "ext 0x0C400001 (0x310 in 11 bits): differs in IDE, which GAM frees".
  * Nothing of a disabled mailbox whose word 0 is 0.
  */
 void say_line_detail(struct text *t, const uint8_t *before, const uint8_t *event, const uint8_t *list, size_t line);
