@@ -5,7 +5,9 @@
 #include <string.h>
 
 #include "frostsorrel.h"
-#include "reference.h"
+#include "stand_in.h"
+
+list_function *explained_by = reference_explain;
 
 uint64_t frostsorrel_fresh(uint8_t *image, size_t image_len)
 {
@@ -31,7 +33,7 @@ uint64_t frostsorrel_compare(const uint8_t *first, size_t first_len, const uint8
 uint64_t frostsorrel_explain(const uint8_t *image, size_t image_len, const uint8_t *event, size_t event_len,
                              uint8_t *list, size_t list_len)
 {
-    return reference_explain(image, image_len, event, event_len, list, list_len);
+    return explained_by(image, image_len, event, event_len, list, list_len);
 }
 
 uint64_t frostsorrel_listing(const uint8_t *trace, size_t trace_len, uint8_t *text, size_t text_len)

@@ -5,7 +5,8 @@
  * The books must balance and agree with the image, every frame that came to nobody, every refusal, every step and every
  * word that changed must be told, each refusal must have a reason that fits it, and so must each frame that no mailbox
  * took, and each missing acknowledgement that TEC does not count. A frame is told with the bytes that it carries, and
- * each line of its explanation with its reason; what is said of a mask is held to a mailbox without it.
+ * each line of its explanation with its reason, what comes of a match, and the identifier and bit that decided; what is
+ * said of a mask is held to a mailbox without it. An explanation that says something else than the step is a fault.
  * host/test_sanitized runs it under the compiler's sanitizers, on the machine's own processor.
  */
 #define _XOPEN_SOURCE 700 /* fork, waitpid and pipe beside C99 */
@@ -20,6 +21,7 @@
 #include "command/report.h"
 #include "command/words.h"
 #include "generate.h"
+#include "stand_in.h"
 
 static int lines_with(const struct text *t, const char *words)
 {
@@ -362,6 +364,82 @@ static void check_bad_image(void)
     check_end(explain_frame, &r, "is asked to explain step 1, and answers 1, ");
 }
 
+/* ---- an explanation that says something else than the step did is a fault of the run, and told with status 1 */
+
+static int is_compared(int reason)
+{
+    return reason >= FROSTSORREL_IDE_DIFFERS && reason <= FROSTSORREL_MATCHED;
+}
+
+/* The first line is wrong: of a mailbox that was compared it says that it is disabled, and of another that it was. */
+static uint64_t explain_wrongly(const uint8_t *image, size_t image_len, const uint8_t *event, size_t event_len,
+                                uint8_t *list, size_t list_len)
+{
+    uint64_t answer = reference_explain(image, image_len, event, event_len, list, list_len);
+
+    if (frostsorrel_answer_count(answer))
+        list[1] = is_compared(list[1]) ? FROSTSORREL_DISABLED : FROSTSORREL_IDE_DIFFERS;
+    return answer;
+}
+
+static int is_frame_taken(const struct run *r, int step)
+{
+    return r->step[step].event[0] == FROSTSORREL_FRAME && refusal_of(r, step) == FROSTSORREL_ACCEPTED;
+}
+
+/* Every frame that was taken, and no other event, has its fault. */
+static void check_faults(const struct run *r, const char *name)
+{
+    int frames = 0;
+
+    for (int k = 1; k <= r->steps; k++) {
+        struct text said = {0};
+
+        if (!is_frame_taken(r, k))
+            continue;
+        text_add(&said, "step %d: mailbox %lu, %lu compared, and its explanation says mailbox ", k,
+                 (unsigned long)(r->step[k].answer >> 8 & 0xFF), (unsigned long)(r->step[k].answer >> 16));
+        check(r->fault.length && strstr(r->fault.at, said.at), "%s: no fault begins: %s", name, said.at);
+        text_free(&said);
+        frames++;
+    }
+    check((r->fault.length ? lines_with(&r->fault, "\n") : 0) == frames, "%s: %d frames: %s", name, frames,
+          r->fault.length ? r->fault.at : "");
+}
+
+static void check_wrong_explanations(const char *name)
+{
+    struct run r;
+
+    explained_by = explain_wrongly;
+    if (run_trace(name, &r) == COMMAND_DONE) {
+        check_faults(&r, name);
+        free_run(&r);
+    }
+    explained_by = reference_explain;
+}
+
+static int show_nothing(const struct run *r, char **argv)
+{
+    (void)r;
+    (void)argv;
+    return COMMAND_DONE;
+}
+
+static void show_story(const struct run *r)
+{
+    char *words[] = {"explain", "examples/refusal_lost.trace", "1"};
+
+    (void)r;
+    explained_by = explain_wrongly; /* in the process that ends here */
+    exit(show_steps(3, words, show_nothing));
+}
+
+static void check_status(void)
+{
+    check_end(show_story, 0, "refusal_lost.trace: a check of the run found a difference, which frostsorrel report");
+}
+
 /* ---- explanations */
 
 static int by_mask, by_no_mask; /* how often a mask made a drawn frame match, or would have freed a bit and was not used */
@@ -399,26 +477,100 @@ static void check_mask(const uint8_t *before, const uint8_t *event, const uint8_
     by_no_mask += unused;
 }
 
+/* What comes of a match: RFH counts only where MD does not let the mailbox receive. */
+static const char *wanted_fate(const uint8_t *before, int mailbox, uint64_t answer)
+{
+    int refused = (answer & 0xFF) != 0;
+
+    if (frostsorrel_register_word(before, FROSTSORREL_MD) >> mailbox & 1)
+        return refused ? "and would be stored there" : "and stored there";
+    if (before[16 * mailbox + 3] >> 5 & 1)
+        return refused ? "and would be asked to reply" : "and asked to reply";
+    return "but RFH is 0: nothing comes of it";
+}
+
+static void want_line(struct text *t, const uint8_t *before, uint64_t answer, const uint8_t *line)
+{
+    if (line[1] == FROSTSORREL_NOT_HEARD)
+        text_add(t, "not heard: the unit is in %s", state_of(before));
+    else
+        text_add(t, "mailbox %d: ", line[0]);
+    if (line[1] == FROSTSORREL_BIT_DIFFERS)
+        text_add(t, "bit %d of the identifier differs", line[2]);
+    if (line[1] == FROSTSORREL_MATCHED)
+        text_add(t, "matched, %s", wanted_fate(before, line[0], answer));
+}
+
+/* Bits as the identifier of this frame is written. */
+static void want_bits(struct text *t, const uint8_t *event, uint32_t bits)
+{
+    if (event[7] >> 7)
+        text_add(t, "0x%08lX", wide(bits & 0x1FFFFFFF));
+    else
+        text_add(t, "0x%03lX", wide(bits >> 18 & 0x7FF));
+}
+
+/* The identifier of the mailbox; one of the other kind that was compared stands there as the frame's is written too. */
+static void want_identifier(struct text *t, uint32_t word_0, const uint8_t *event, int reason)
+{
+    int other_kind = (word_0 >> 31) != (uint32_t)(event[7] >> 7);
+
+    say_identifier(t, word_0);
+    if (reason < FROSTSORREL_BIT_DIFFERS || !other_kind)
+        return;
+    text_add(t, " (");
+    want_bits(t, event, word_0);
+    text_add(t, " in %d bits)", event[7] >> 7 ? 29 : 11);
+}
+
+/* The beginning of what stands beside a mailbox's line, with the two values of the bit that differs. */
+static void want_detail(struct text *t, const uint8_t *before, const uint8_t *event, const uint8_t *line)
+{
+    uint32_t word_0 = frostsorrel_word(before + 16 * line[0]), value = frostsorrel_word(event + 4);
+    int bit = line[2];
+
+    want_identifier(t, word_0, event, line[1]);
+    if (line[1] != FROSTSORREL_BIT_DIFFERS)
+        return;
+    text_add(t, ": ");
+    want_bits(t, event, 1u << bit);
+    text_add(t, " is %d here, %d in the frame", (int)(word_0 >> bit & 1), (int)(value >> bit & 1));
+}
+
+static void check_beginning(const struct text *words, const struct text *wanted, const char *name)
+{
+    check(words->length >= wanted->length && strncmp(words->at, wanted->at, wanted->length) == 0,
+          "%s: %s is said, and not %s", name, words->length ? words->at : "nothing", wanted->at);
+}
+
+/* What stands beside the line of a mailbox that was compared. */
+static void check_line_detail(const uint8_t *before, const uint8_t *event, const uint8_t *list, size_t line,
+                              const char *name)
+{
+    const uint8_t *bytes = list + FROSTSORREL_LINE_BYTES * line;
+    struct text detail = {0}, wanted = {0};
+
+    say_line_detail(&detail, before, event, list, line);
+    if (is_compared(bytes[1])) {
+        want_detail(&wanted, before, event, bytes);
+        check_beginning(&detail, &wanted, name);
+        check_mask(before, event, bytes, detail.at, name);
+    }
+    text_free(&detail);
+    text_free(&wanted);
+}
+
 static void check_line(const uint8_t *before, const uint8_t *event, uint64_t answer, const uint8_t *list, size_t line,
                        const char *name)
 {
-    const uint8_t *bytes = list + FROSTSORREL_LINE_BYTES * line;
-    struct text words = {0}, detail = {0}, begins = {0};
+    struct text words = {0}, wanted = {0};
 
-    if (bytes[1] == FROSTSORREL_NOT_HEARD)
-        text_add(&begins, "not heard: the unit is in %s", state_of(before));
-    else
-        text_add(&begins, "mailbox %lu: ", (unsigned long)line);
-    if (bytes[1] == FROSTSORREL_BIT_DIFFERS)
-        text_add(&begins, "bit %d of the identifier differs", bytes[2]);
     say_line(&words, before, answer, list, line);
-    say_line_detail(&detail, before, event, list, line);
-    check(strncmp(words.at, begins.at, begins.length) == 0, "%s: %s is said, and not %s", name, words.at, begins.at);
-    if (bytes[1] >= FROSTSORREL_IDE_DIFFERS && bytes[1] <= FROSTSORREL_MATCHED)
-        check_mask(before, event, bytes, detail.at, name);
+    want_line(&wanted, before, answer, list + FROSTSORREL_LINE_BYTES * line);
+    check_beginning(&words, &wanted, name);
+    check_line_detail(before, event, list, line, name);
     text_free(&words);
-    text_free(&detail);
-    text_free(&begins);
+    text_free(&wanted);
 }
 
 /* Nothing is said of an event that the library does not explain. */
@@ -516,6 +668,7 @@ static void check_file(const char *name)
     for (int changes = 0; changes < 3; changes++)
         check_bytes(damaged(file, 4 * changes), name);
     check_bytes(repeated(file), name);
+    check_wrong_explanations(name);
     free(file.at);
 }
 
@@ -558,6 +711,7 @@ int main(int argc, char **argv)
 {
     seed_generator(1);
     check_bad_image();
+    check_status();
     for (int i = 1; i < argc; i++)
         check_file(argv[i]);
     for (int i = 0; i < 2000; i++)
