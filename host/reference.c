@@ -445,7 +445,8 @@ static inline uint64_t carried(struct event e)
     return value(e) & FRAME_RTR ? 0 : bytes_of(target(e));
 }
 
-static bool allowed_frame(struct event e)
+/* Inline for both who ask: called as a function it made the frames of a step a tenth slower. */
+static inline bool allowed_frame(struct event e)
 {
     return (e.head & (WORD | BYTE_3)) == 0 && target(e) <= HIGHEST_DLC && !(value(e) & FRAME_SPARE) &&
            stray_identifier(value(e)) == 0 && (e.data & ~carried(e)) == 0;
@@ -889,12 +890,13 @@ static inline uint32_t highest_bit(uint32_t bits)
 /* The first reason that holds. */
 static uint64_t explain_mailbox(const uint8_t *image, uint32_t n, uint32_t frame)
 {
-    uint32_t differing = differing_bits(image, n, frame);
+    uint32_t differing;
 
     if (!(get(image, MC) >> n & 1))
         return line(n, DISABLED, 0);
     if (!(get(image, MD) >> n & 1) && !(frame & FRAME_RTR))
         return line(n, TRANSMITS, 0);
+    differing = differing_bits(image, n, frame);
     if (differing & IDE)
         return line(n, IDE_DIFFERS, 0);
     if (differing)
