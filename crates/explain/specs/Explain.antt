@@ -33,8 +33,8 @@ bitNumber (BitDiffers i) = i
 bitNumber Matched = 0
 bitNumber (NotHeard m) = m
 
--- Why did it land there: does mailbox n differ from the frame in bit i of word 0? The bit is compared, the mailbox's mask does not free it, and it is
--- not the same in both.
+-- Why did it land there: does mailbox n differ from the frame in bit i of word 0? The bit is compared, the mailbox's mask does not free it,
+-- and it is not the same in both.
 abbrev pub differs : List ℕ → List ℕ → ℕ → ℕ → Bool
 differs s e n i = matters e i && not (freed s n i) && xor (box s n 0 has i) (value e has i)
 
