@@ -25,9 +25,9 @@
 extern "C" {
 #endif
 
-#define FROSTSORREL_VERSION "0.5.0"
+#define FROSTSORREL_VERSION "0.6.0"
 #define FROSTSORREL_VERSION_MAJOR 0
-#define FROSTSORREL_VERSION_MINOR 5
+#define FROSTSORREL_VERSION_MINOR 6
 #define FROSTSORREL_VERSION_PATCH 0
 
 #define FROSTSORREL_IMAGE_BYTES 640
@@ -40,6 +40,11 @@ extern "C" {
 #define FROSTSORREL_TRACE_BYTES 48006   /* the longest trace: three full sections */
 #define FROSTSORREL_LISTING_BYTES 39033 /* room for any listing */
 
+#define FROSTSORREL_STREAM_BYTES 32        /* the state of a stream */
+#define FROSTSORREL_STREAM_OPEN_BYTES 24   /* what an opening writes */
+#define FROSTSORREL_STREAM_FEED_BYTES 31   /* these and the part's length are room for what a feeding writes */
+#define FROSTSORREL_STREAM_CLOSE_BYTES 16  /* room for what a closing writes */
+
 #define FROSTSORREL_ENTRY_BYTES 12        /* of a list of differences */
 #define FROSTSORREL_DIFFERENCE_BYTES 1920 /* room for any such list: an entry for each word */
 
@@ -49,14 +54,14 @@ extern "C" {
 /* The refusals. Where several apply, the lowest is given. */
 enum {
     FROSTSORREL_ACCEPTED = 0,
-    FROSTSORREL_BAD_IMAGE = 1,   /* the image is not good */
+    FROSTSORREL_BAD_IMAGE = 1,   /* the image is not good; of a stream: its length, or the state */
     FROSTSORREL_UNKNOWN = 2,     /* no such operation, register, mailbox, word or outcome; no frame */
     FROSTSORREL_ASLEEP = 3,      /* not while the model sleeps */
     FROSTSORREL_NOT_ALLOWED = 4, /* an unused byte is not 0, or the value or the DLC is not allowed */
     FROSTSORREL_BUSY = 5,        /* something is being sent, or waits to be */
     FROSTSORREL_LOCKED = 6,      /* not in this mode, or not while the mailbox is enabled */
     FROSTSORREL_SLOT_EMPTY = 7,  /* an outcome, but nothing is being sent */
-    FROSTSORREL_BAD_TRACE = 8,   /* the file is no trace; no step answers it */
+    FROSTSORREL_BAD_TRACE = 8,   /* the file is no trace, or the stream is over; no step answers it */
     FROSTSORREL_NO_ROOM = 9      /* what is to be written does not fit; no step answers it */
 };
 
@@ -306,6 +311,67 @@ uint64_t frostsorrel_read(const uint8_t *image, size_t image_len, uint32_t numbe
 uint64_t frostsorrel_listing(const uint8_t *trace, size_t trace_len, uint8_t *text, size_t text_len);
 
 /*
+ * A trace that arrives in parts: a stream. It is opened, fed the bytes of the trace in parts of any length,
+ * and closed. Each call writes the lines that are known by then. However the trace is cut, the lines one
+ * behind the other, the last image and the last refusal are the same; of a well-formed trace the lines are
+ * what frostsorrel_listing writes.
+ *
+ * A stream is two things of the caller's: an image of 640 bytes, and a state of 32. It keeps no copy of the
+ * trace. Opening makes both, whatever they held, and a new opening starts over.
+ *
+ *   frostsorrel_stream_open    writes `step code mailbox count`
+ *   frostsorrel_stream_feed    feeds each event to the image as its 16th byte comes, and writes its line,
+ *                              refused or not; and `trace refused 8` if the part has the fault
+ *   frostsorrel_stream_close   writes `end` and how many events there were; or, where the trace is too short,
+ *                              `trace refused 8`
+ *
+ * Each line ends in a line feed. The fault is the first byte that no well-formed trace could have there: the
+ * high byte of a count above 1,000; the first byte of an event whose operation may not stand in its section
+ * (1 in the first, 0 and 9 in the second, any in the third); the first byte behind the third section. The
+ * image then has what the events complete before it did, and no byte behind it is looked at. After a fault,
+ * and after a closing, the stream is over.
+ *
+ * The first line that applies decides:
+ *
+ *   image_len is not 640, or state_len is not 32                          refusal 1
+ *   feeding, closing: the stream is over                                  refusal 8, 0 bytes
+ *   feeding, closing: no call leaves such a state                         refusal 1
+ *   what this call writes is longer than text_len                         refusal 9
+ *   this call has the fault, or closes a trace that is too short          refusal 8
+ *   else                                                                  refusal 0
+ *
+ * An answer has the refusal, mailbox 32, and in the count how many bytes were written to the front of `text`;
+ * every byte of `text` behind them stays. The first four write nothing, and change neither image nor state: a
+ * call that got 9 can be made again with a larger `text`. A part of length 0 answers refusal 0 and writes
+ * nothing. An image of 640 bytes that is not good is no refusal of the call: each line says 1, as the step
+ * does. The 640 and 32 bytes, `part` and `text` may not overlap.
+ *
+ * Room that never gets a 9: 24 bytes for an opening, part_len + 31 for a feeding (no feeding needs more than
+ * 39,016), 16 for a closing. With that room a feeding goes over the part once. With less it first tries the
+ * part on copies of image and state, to know how long its text is.
+ *
+ * The state, should you want to look: four words, low byte first, and 16 bytes.
+ *
+ *   word 0   the section that is being read, 1 to 3; 4 behind the third; 5 where the stream is over
+ *   word 1   how many events of that section are not complete; 0 while its count is read, in 4 and in 5
+ *   word 2   how many events are complete; 0 in 5
+ *   word 3   how many bytes are there of a count or an event that is not complete; 0 in 5
+ *   then     those bytes, the others 0
+ *
+ * No call leaves a state with word 0 other than 1 to 5; with more events, complete or not, than 1,000 for
+ * each section whose count is known; with more than 1,000 in word 1; with an event's bytes whose first may
+ * not stand in that section; with as many bytes as the count (2) or the event (16) has; or, in 4, with
+ * anything but 0 in word 1 or 3; or with another byte than 0 behind those that are there. In 5 the rest does
+ * not matter: the stream is over.
+ */
+uint64_t frostsorrel_stream_open(uint8_t *image, size_t image_len, uint8_t *state, size_t state_len,
+                                 uint8_t *text, size_t text_len);
+uint64_t frostsorrel_stream_feed(uint8_t *image, size_t image_len, uint8_t *state, size_t state_len,
+                                 const uint8_t *part, size_t part_len, uint8_t *text, size_t text_len);
+uint64_t frostsorrel_stream_close(uint8_t *image, size_t image_len, uint8_t *state, size_t state_len,
+                                  uint8_t *text, size_t text_len);
+
+/*
  * Compares two images and lists every word in which they differ.
  *
  * The words of an image are numbered from its first byte: 4 * mailbox + word for those of a mailbox,
@@ -542,7 +608,10 @@ static inline uint32_t frostsorrel_line_bit(const uint8_t *list, size_t line)
 
 /* ---- answers */
 
-/* The parts of what fresh, step, compare and explain answer: refusal + 256 * mailbox + 65536 * count. */
+/*
+ * The parts of what fresh, step, compare, explain and the calls of a stream answer:
+ * refusal + 256 * mailbox + 65536 * count.
+ */
 static inline uint32_t frostsorrel_answer_refusal(uint64_t answer)
 {
     return (uint32_t)(answer & 0xFF);
