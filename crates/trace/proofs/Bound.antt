@@ -19,7 +19,7 @@ length-field : (n end : ℕ) → length (field n end) ≡ length (decimal n) + 1
 length-field n end = length-append (decimal n) (end ∷ [])
 
 -- the line of an event: four digits, one, two and two, and four bytes that end them
-line-most : (n : ℕ) (o : Outcome) → n < 10000 → Small o → length (line n o) ≤ 13
+pub line-most : (n : ℕ) (o : Outcome) → n < 10000 → Small o → length (line n o) ≤ 13
 unfolding lineOf
 line-most n o h s =
     let c = field (o .count) feed in
@@ -35,7 +35,7 @@ lines-most n s (e ∷ es) h =
     let t = step s e .image in
     omega (arith, length-append (line n (step s e)) (lines (n + 1) t es), line-most n (step s e) (omega arith) (step-small s e), lines-most (n + 1) t es (omega arith))
 
-ending-most : (n : ℕ) → n < 10000 → length (ending n) ≤ 9
+pub ending-most : (n : ℕ) → n < 10000 → length (ending n) ≤ 9
 unfolding ending
 ending-most n h = omega (arith, length-append endWord (field n feed), length-field n feed, digits-four n h)
 

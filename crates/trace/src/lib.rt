@@ -8,7 +8,7 @@ ghost use Rattle.fresh.specs.Fresh.{freshImage};
 ghost use Rattle.texts.specs.Text.{Put};
 ghost use Rattle.trace.specs.Trace.{countAt, endOf, second, third, takes as takesOf, placed, sound, wellFormed, section, events, line, lines, imageAfter, run as runOf, longest, Listed};
 
-mod text;
+pub mod text;
 
 use text::put_ending;
 use text::put_line;
@@ -50,7 +50,7 @@ fn end_of(file: &[u8], at: usize) -> usize
 }
 
 // Does the k-th section take this operation?
-fn takes(k: usize, op: usize) -> bool
+pub fn takes(k: usize, op: usize) -> bool
     ensures { λ r. ⌜ r ≡ takesOf k op ⌝ }
 {
     (k == 3) | ((k == 1) & (op == 1) | (k == 2) & ((op == 0) | (op == 9)))
@@ -96,7 +96,7 @@ pub fn is_trace(file: &[u8]) -> bool
 }
 
 // One event: its step, and its line, refused or not.
-fn run_event(image: &mut [u8], event: &[u8], out: &mut [u8], at: usize, number: u64) -> usize
+pub fn run_event(image: &mut [u8], event: &[u8], out: &mut [u8], at: usize, number: u64) -> usize
     requires { ⌜ at + length (line number (stepOf (now image) (now event))) ≤ length (now out) ⌝ }
     ensures { λ r. ⌜ (Put (now (out .entry)) at (line number (stepOf (now (image .entry)) (now (event .entry)))) (now (out .exit)) r) × (now (image .exit) ≡ stepOf (now (image .entry)) (now (event .entry)) .image) ⌝ }
 {

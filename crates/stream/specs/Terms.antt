@@ -1,0 +1,65 @@
+-- What the code of the stream relies on, and what its parts leave. No promise to C is said in these words.
+use Prim.Native.Nat.{ℕ, _+_, _-_, _*_, _<_, _≤_}
+use mathlib.Core.Path.{_≡_}
+use mathlib.Core.Bool.{true}
+use mathlib.Core.List.{List, []}
+use lib.ListN.{length, take, getD}
+use Rattle.words.specs.Word.{wordAt}
+use Rattle.words.specs.Bytes.{Bytes}
+use Rattle.texts.specs.Text.{written, Put}
+use Rattle.trace.specs.Trace.{takes}
+use Rattle.stream.specs.declared.Reader.{Reader}
+use Rattle.stream.specs.declared.Taken.{Taken}
+use Rattle.stream.specs.Stream.{Standing, Turn, at, behind, over, counts, fed, printed}
+use Rattle.stream.specs.Calls.{stateOf, standing, whole}
+
+-- The reader by value, the 16 bytes e in which it gathers, and the image s.
+abbrev pub standingBy : Reader → List ℕ → List ℕ → Standing
+standingBy r e s = at (r .section) (r .left) (r .steps) (take (r .seen) e) s
+
+-- The reader that the state bytes keep.
+abbrev pub readerOf : List ℕ → Reader
+readerOf t = record { section = wordAt t 0; left = wordAt t 4; steps = wordAt t 8; seen = wordAt t 12 }
+
+-- Where a stream can stand.
+pub record Ready (σ : Standing) : Type 0 where
+  pub first : 1 ≤ σ .section
+  pub last : σ .section ≤ over
+  pub few : σ .left ≤ 1000
+  pub counting : σ .left ≡ 0 → σ .section ≤ behind → σ .steps ≤ 1000 * (σ .section - 1)
+  pub running : 0 < σ .left → (σ .section ≤ 3) × (σ .steps + σ .left ≤ 1000 * σ .section)
+  pub done : σ .section ≡ over → σ .steps ≡ 0
+  pub short : length (σ .gathered) < whole (σ .section) (σ .left)
+  pub placed : 0 < σ .left → 0 < length (σ .gathered) → takes (σ .section) (getD (σ .gathered) 0 0) ≡ true
+  pub bytes : Bytes (σ .gathered)
+
+-- What a turn leaves: the reader, the bytes in which it gathers, the image, and its text at the front of the line.
+pub record Took (t : Turn) (line event image exit : List ℕ) (p : Taken) : Type 0 where
+  pub next : standingBy (p .reader) event image ≡ t .next
+  pub few : p .reader .seen ≤ 15
+  pub text : Put line 0 (t .text) exit (p .length)
+
+-- What the bytes of a count leave, whatever the image is.
+abbrev pub Counts : Reader → List ℕ → List ℕ → List ℕ → Taken → Type 0
+Counts r event line exit p =
+    (s : List ℕ) → Took (counts (at (r .section) (r .left) (r .steps) [] s) (take (r .seen + 1) event)) line event s exit p
+
+-- What a part leaves. Its text stands at the front of o where it fits; it is counted in any case.
+pub record Fed (σ : Standing) (part o event image exit : List ℕ) (p : Taken) : Type 0 where
+  pub next : standingBy (p .reader) event image ≡ fed σ part
+  pub few : p .reader .seen ≤ 15
+  pub counted : p .length ≡ length (printed σ part)
+  pub text : length (printed σ part) ≤ length o → exit ≡ written o 0 (printed σ part)
+
+-- The same, with the state bytes.
+pub record Taking (σ : Standing) (part o image state exit : List ℕ) (p : Taken) : Type 0 where
+  pub image-is : image ≡ fed σ part .image
+  pub state-is : state ≡ stateOf (fed σ part)
+  pub section-is : p .reader .section ≡ fed σ part .section
+  pub counted : p .length ≡ length (printed σ part)
+  pub text : length (printed σ part) ≤ length o → exit ≡ written o 0 (printed σ part)
+
+-- A text behind the first `at` bytes of o, where it fits; it is counted in any case.
+pub record Added (o : List ℕ) (at : ℕ) (text exit : List ℕ) (answer : ℕ) : Type 0 where
+  pub counted : answer ≡ at + length text
+  pub bytes : at + length text ≤ length o → exit ≡ written o at text
