@@ -1,6 +1,7 @@
 /*
  * Document 01, and of document 02 the comparison of two images, the outcome for a missing acknowledgement,
- * DLC 9 to 15 and the explainer, in plain C. "D12" and the like are entries of docs/DECISIONS.md.
+ * DLC 9 to 15 and the explainer, in plain C. "D12" and the like are entries of docs/DECISIONS.md. Traces in
+ * parts have a file of their own, so that the code of a step stays where it is.
  */
 #include "reference.h"
 

@@ -1,9 +1,9 @@
 /*
- * A second implementation of document 01 and of requests a) to d) of document 02, in plain C, apart from the
- * proved one: it was written from these and docs/DECISIONS.md alone. The tests hold the two against each
- * other.
+ * A second implementation of document 01 and of requests a) to e) of document 02, in plain C, apart from the
+ * proved one: it was written from these, frostsorrel.h and docs/DECISIONS.md alone. The tests hold the two
+ * against each other.
  *
- * The first five functions have the signatures and the answers of those in frostsorrel.h.
+ * The first eight functions have the signatures and the answers of those in frostsorrel.h.
  */
 #ifndef REFERENCE_H
 #define REFERENCE_H
@@ -18,6 +18,12 @@ uint64_t reference_compare(const uint8_t *first, size_t first_len, const uint8_t
                            size_t second_len, uint8_t *list, size_t list_len);
 uint64_t reference_explain(const uint8_t *image, size_t image_len, const uint8_t *event, size_t event_len,
                            uint8_t *list, size_t list_len);
+uint64_t reference_stream_open(uint8_t *image, size_t image_len, uint8_t *state, size_t state_len,
+                               uint8_t *text, size_t text_len);
+uint64_t reference_stream_feed(uint8_t *image, size_t image_len, uint8_t *state, size_t state_len,
+                               const uint8_t *part, size_t part_len, uint8_t *text, size_t text_len);
+uint64_t reference_stream_close(uint8_t *image, size_t image_len, uint8_t *state, size_t state_len,
+                                uint8_t *text, size_t text_len);
 
 /* The signature of comparing and explaining: two things to read are lent, and bytes for a list. */
 typedef uint64_t list_function(const uint8_t *, size_t, const uint8_t *, size_t, uint8_t *, size_t);

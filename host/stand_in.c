@@ -47,3 +47,21 @@ uint64_t frostsorrel_listing(const uint8_t *trace, size_t trace_len, uint8_t *te
     memcpy(text, listing, length);
     return length;
 }
+
+uint64_t frostsorrel_stream_open(uint8_t *image, size_t image_len, uint8_t *state, size_t state_len,
+                                 uint8_t *text, size_t text_len)
+{
+    return reference_stream_open(image, image_len, state, state_len, text, text_len);
+}
+
+uint64_t frostsorrel_stream_feed(uint8_t *image, size_t image_len, uint8_t *state, size_t state_len,
+                                 const uint8_t *part, size_t part_len, uint8_t *text, size_t text_len)
+{
+    return reference_stream_feed(image, image_len, state, state_len, part, part_len, text, text_len);
+}
+
+uint64_t frostsorrel_stream_close(uint8_t *image, size_t image_len, uint8_t *state, size_t state_len,
+                                  uint8_t *text, size_t text_len)
+{
+    return reference_stream_close(image, image_len, state, state_len, text, text_len);
+}
