@@ -7,28 +7,28 @@
  * Registers are read and models made fresh along the way, and pairs of images compared: equal ones, such
  * that differ in one word or in nearly all, two of a run, bad ones on either side, with too little room for
  * the list, just enough, and more. Frames are explained, most of them such that a mailbox matches or just misses,
- * in rooms of the same kinds; each explanation is held against what a step makes of the frame.
+ * in rooms of the same kinds; each explanation is held against what a step makes of the frame. Traces go through
+ * streams, cut anywhere (compare_streams.c).
  *
  * A line before the sum says how often outcome 3 was taken, and how often by a model that was passive before it,
  * since the two count TEC differently, and how often only REC made it so. Another says how many frames with a DLC of
  * 9 to 15 were stored, data and remote ones, and how many were refused for nothing but a DLC above 15. The last ones
- * say what the explanations have met.
+ * say what the explanations and the streams have met.
  */
 #include <stdlib.h>
 
 #include "check.h"
+#include "compare.h"
 #include "events.h"
 #include "generate.h"
 #include "image.h"
 #include "reference.h"
 
-#define GUARD 13 /* bytes around an image or a list; odd, so that it does not stand at an even address */
 #define LONGEST_IMAGE (2 * BYTES)
 #define ARENA (LONGEST_IMAGE + 2 * GUARD)
 #define LONGEST_LIST (2 * FROSTSORREL_DIFFERENCE_BYTES)
 #define LIST_ARENA (LONGEST_LIST + 2 * GUARD)
-#define MOST_SHOWN 3  /* disagreements of a kind */
-#define MOST_WORDS 20 /* of an image, in one of those */
+#define MOST_WORDS 20 /* of an image, in a disagreement that is shown */
 
 struct trial {
     uint8_t image[LONGEST_IMAGE], event[LONGEST_EVENT];
@@ -112,13 +112,6 @@ static void shrink(struct trial *t)
     }
 }
 
-static void print_answer(const char *who, uint64_t answer)
-{
-    printf("    %s answers refusal %u, mailbox %u, count %u\n", who,
-           (unsigned)frostsorrel_answer_refusal(answer), (unsigned)frostsorrel_answer_mailbox(answer),
-           (unsigned)frostsorrel_answer_count(answer));
-}
-
 static void print_words(const char *what, const uint8_t *first, const uint8_t *second)
 {
     int differ = 0;
@@ -157,8 +150,6 @@ static void show(struct trial t)
     if (t.image_len == BYTES)
         print_words("library, and reference", ours.arena + GUARD, theirs.arena + GUARD);
 }
-
-#define LONG_ENOUGH 10000 /* steps, in which everything is met that is counted below */
 
 /* ---- outcome 3, as it was taken by models that were error active before it, passive by TEC, and by REC alone */
 
@@ -396,18 +387,6 @@ static void try_plain_list(struct pair *p, const struct twins *call)
     memset(p->list, 0xA5, LIST_ARENA);
     if (!differ(p, call))
         *p = old;
-}
-
-/* Bytes are counted from the first that was handed over: below 0 and past the length are the guards. */
-static void print_first_byte(const char *what, const uint8_t *ours, const uint8_t *theirs, size_t size)
-{
-    size_t at = 0;
-
-    while (at < size && ours[at] == theirs[at])
-        at++;
-    if (at < size)
-        printf("    %s, byte %ld: library 0x%02X, reference 0x%02X\n", what, (long)at - GUARD, ours[at],
-               theirs[at]);
 }
 
 static void print_effects(const struct pair *p, const struct twins *call)
@@ -803,10 +782,7 @@ enum met {
     REFUSED_LENGTH, REFUSED_IMAGE, REFUSED_BOTH, REFUSED_EVENT_LENGTH, REFUSED_OPERATION, REFUSED_FRAME
 };
 
-static struct tally {
-    const char *kind, *what;
-    unsigned long times;
-} tallies[] = {
+static struct tally tallies[] = {
     [A_DISABLED] = {"lines", "disabled", 0},
     [A_TRANSMITS] = {"lines", "transmits", 0},
     [AN_IDE] = {"lines", "IDE differs", 0},
@@ -947,23 +923,6 @@ static void count_explanation(const struct pair *p)
         count_silence(p->first);
 }
 
-static void check_explanations(unsigned long steps)
-{
-    for (size_t i = 0; i < TALLIES; i++) {
-        const struct tally *t = &tallies[i];
-
-        if (i == 0 || strcmp(t->kind, t[-1].kind) != 0)
-            printf("%sexplain, %s:", i == 0 ? "" : "\n", t->kind);
-        else
-            printf(";");
-        printf(" %lu %s", t->times, t->what);
-    }
-    printf("\n");
-    for (size_t i = 0; i < TALLIES; i++)
-        check(steps < LONG_ENOUGH || tallies[i].times > 0, "explain, %s: %s was not met", tallies[i].kind,
-              tallies[i].what);
-}
-
 static void explain_frame(unsigned long number)
 {
     struct pair p;
@@ -1001,10 +960,13 @@ int main(int argc, char **argv)
             compare_images(number);
         if (draw(2) == 0)
             explain_frame(number);
+        if (draw(8) == 0)
+            compare_stream(number);
     }
     check_unacknowledged(steps);
     check_dlc(steps);
-    check_explanations(steps);
+    check_tallies("explain", tallies, TALLIES, steps);
+    check_streams(steps);
     snprintf(name, sizeof name, "host compare, %lu steps, seed %lu", steps, seed);
     return report(name);
 }

@@ -11,76 +11,13 @@
 #include "generate.h"
 #include "image.h"
 #include "reference.h"
+#include "traces.h"
 
 #define COUNT(table) (sizeof(table) / sizeof((table)[0]))
 
-#define SECTIONS 3
-#define LIMIT 1000 /* events of a section */
 #define FEW 30
 
-struct trace {
-    uint8_t bytes[SECTIONS * (2 + (LIMIT + 1) * EVENT_BYTES)];
-    size_t len, section[SECTIONS]; /* where each section begins */
-};
-
-typedef size_t draw_function(uint8_t *event, const uint8_t *image);
-
-/* ---- traces whose counts and places are right, whatever their events do */
-
-static int has_place(int section, uint8_t operation)
-{
-    switch (section) {
-    case 0: return operation == FROSTSORREL_WRITE_MAILBOX;
-    case 1: return operation == FROSTSORREL_WRITE_REGISTER || operation == FROSTSORREL_OPTIONS;
-    default: return 1;
-    }
-}
-
-/* The length that comes with a drawn event does not matter: in a file every event has 16 bytes. */
-static void draw_event(uint8_t *event, int section, const uint8_t *image, draw_function *next)
-{
-    do
-        next(event, image);
-    while (!has_place(section, event[0]));
-}
-
-static void put_count(struct trace *t, int section, size_t count)
-{
-    t->bytes[t->section[section]] = (uint8_t)count;
-    t->bytes[t->section[section] + 1] = (uint8_t)(count >> 8);
-}
-
-static size_t count_of(const struct trace *t, int section)
-{
-    const uint8_t *at = t->bytes + t->section[section];
-
-    return at[0] + 256u * at[1];
-}
-
-/* The image goes along, so that an event can be drawn that it is likely to accept. */
-static void add_section(struct trace *t, int section, size_t count, uint8_t *image, draw_function *next)
-{
-    uint8_t event[LONGEST_EVENT];
-
-    t->section[section] = t->len;
-    put_count(t, section, count);
-    t->len += 2;
-    for (size_t i = 0; i < count; i++, t->len += EVENT_BYTES) {
-        draw_event(event, section, image, next);
-        reference_step(image, BYTES, event, EVENT_BYTES);
-        memcpy(t->bytes + t->len, event, EVENT_BYTES);
-    }
-}
-
-static void draw_trace(struct trace *t, const size_t *counts, draw_function *next)
-{
-    uint8_t image[BYTES];
-
-    put_fresh(image);
-    t->len = 0;
-    for (int section = 0; section < SECTIONS; section++)
-        add_section(t, section, counts[section], image, next);
-}
+/* ---- traces that are good, whatever their events do */
 
 /* At least one event in each section, and at most as many as are said. */
 static void draw_up_to(struct trace *t, uint32_t most, draw_function *next)
@@ -190,19 +127,6 @@ static void draw_with_byte_more(struct trace *t)
     at = draw((uint32_t)t->len);
     memmove(t->bytes + at + 1, t->bytes + at, t->len++ - at);
     t->bytes[at] = (uint8_t)draw(256);
-}
-
-/* One event gets an operation that its section does not take, often that of the other section. */
-static void misplace(struct trace *t, int section)
-{
-    static const uint8_t likely[] = {FROSTSORREL_WRITE_MAILBOX, FROSTSORREL_WRITE_REGISTER,
-                                     FROSTSORREL_OPTIONS};
-    uint8_t *first = t->bytes + t->section[section] + 2;
-    uint8_t *operation = first + EVENT_BYTES * draw((uint32_t)count_of(t, section));
-
-    do
-        *operation = draw(4) ? likely[draw(COUNT(likely))] : (uint8_t)draw(256);
-    while (has_place(section, *operation));
 }
 
 static void draw_misplaced_in_first(struct trace *t)
