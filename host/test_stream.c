@@ -61,18 +61,20 @@ static struct lent {
         text[LONGEST_TEXT + 2 * GUARD];
 } lent, before;
 
-static void put_pattern(uint8_t *bytes, size_t len)
+static uint8_t pattern[LONGEST_TEXT + 2 * GUARD];
+
+static void put_pattern(void)
 {
-    for (size_t i = 0; i < len; i++)
-        bytes[i] = (uint8_t)(37 * i + 11);
+    for (size_t i = 0; i < sizeof pattern; i++)
+        pattern[i] = (uint8_t)(37 * i + 11);
 }
 
 static void lend(const struct stream *s, const struct call *c)
 {
-    put_pattern(lent.image, sizeof lent.image);
-    put_pattern(lent.state, sizeof lent.state);
-    put_pattern(lent.part, c->part_len + 2 * GUARD);
-    put_pattern(lent.text, c->text_len + 2 * GUARD);
+    memcpy(lent.image, pattern, sizeof lent.image);
+    memcpy(lent.state, pattern, sizeof lent.state);
+    memcpy(lent.part, pattern, c->part_len + 2 * GUARD);
+    memcpy(lent.text, pattern, c->text_len + 2 * GUARD);
     memcpy(lent.image + GUARD, s->image, BYTES);
     memcpy(lent.state + GUARD, s->state, STATE);
     if (c->part_len > 0)
@@ -160,7 +162,7 @@ static void expect_rooms(const char *what, struct stream *s, struct call c, uint
 static void open_stream(struct stream *s)
 {
     memset(s, 0xFF, sizeof *s);
-    expect_rooms("opening", s, opening(24), 0, HEADER);
+    expect_call("opening", s, opening(24), 0, HEADER);
 }
 
 static void feed(const char *what, struct stream *s, const uint8_t *part, size_t len, uint32_t refusal,
@@ -910,17 +912,11 @@ static void test_longest_pair(void)
 static uint8_t longest[FROSTSORREL_TRACE_BYTES];
 static char longest_text[FROSTSORREL_LISTING_BYTES];
 
-static void put_line(unsigned number, unsigned refusal, unsigned mailbox, unsigned count)
-{
-    size_t len = strlen(longest_text);
-
-    snprintf(longest_text + len, sizeof longest_text - len, "%u %u %u %u\n", number, refusal, mailbox, count);
-}
-
 /* 1,000 writes of mailbox 31, 1,000 writes of registers, and 999 frames behind a mode: all are taken. */
 static void put_longest(void)
 {
     uint8_t *at = longest;
+    char *line = longest_text;
 
     for (unsigned number = 1; number <= 3000; number++) {
         unsigned step = (number - 1) % 1000;
@@ -937,7 +933,7 @@ static void put_longest(void)
             e = step == 0 ? mode(NORMAL_MODE) : data_frame(0, 0, 0);
         memcpy(at, e.bytes, EVENT_BYTES);
         at += EVENT_BYTES;
-        put_line(number, 0, number > 2001 ? 31 : 32, number > 2001);
+        line += sprintf(line, "%u 0 %s\n", number, number > 2001 ? "31 1" : "32 0");
     }
 }
 
@@ -989,6 +985,13 @@ static void test_listing(void)
 #define MOST_STACK 4096
 #endif
 
+/* A sanitizer puts bytes of its own around everything on the stack. */
+#ifdef __SANITIZE_ADDRESS__
+#define SANITIZED 1
+#else
+#define SANITIZED 0
+#endif
+
 static struct stream on_stack;
 static uint8_t on_stack_text[LENGTH + 31];
 static size_t on_stack_room;
@@ -1015,21 +1018,21 @@ static void expect_stack(const char *what, void (*function)(void))
     check(taken <= MOST_STACK, "%s takes %lu bytes of the stack", what, (unsigned long)taken);
 }
 
-/* A sanitizer puts bytes of its own around everything on the stack. */
 static void test_stack(void)
 {
-#ifndef __SANITIZE_ADDRESS__
+    if (SANITIZED)
+        return;
     expect_stack("opening", open_for_stack);
     on_stack_room = 20; /* too little: it is tried on copies */
     expect_stack("feeding in a small room", feed_for_stack);
     on_stack_room = sizeof on_stack_text;
     expect_stack("feeding", feed_for_stack);
     expect_stack("closing", close_for_stack);
-#endif
 }
 
 int main(void)
 {
+    put_pattern();
     test_whole();
     test_states();
     test_cuts();
