@@ -2,9 +2,12 @@
  * The speed of the library beside that of the plain C: bench [ROUNDS [SEED]].
  *
  * A stream is many runs, each an image and the events that follow, or many pairs: of images to compare, or of
- * an image and a frame to explain. All of it is drawn before the clock starts, and both sides get the same. A
- * round lets each side go through the whole stream; the best round counts. Answers, images and lists must come
- * out equal, so that no wrong work is measured.
+ * an image and a frame to explain; or traces that are fed in parts, where the time is that of an event. All of
+ * it is drawn before the clock starts, and both sides get the same. A round lets each side go through the whole
+ * stream; the best round counts. Answers, images, lists and texts must come out equal, so that no wrong work is
+ * measured.
+ *
+ * In the end it says how many bytes of the stack each call of a stream takes.
  */
 #include <stdlib.h>
 #include <time.h>
@@ -14,12 +17,20 @@
 #include "generate.h"
 #include "image.h"
 #include "reference.h"
+#include "stack.h"
+#include "traces.h"
 
 #define RUNS 64
 #define LENGTH 512 /* events in a run */
 #define STEPS (RUNS * LENGTH)
 #define PAIRS 512 /* a round takes each of them STEPS / PAIRS times */
 #define MOST_ROUNDS 1000
+
+#define TRACES 32
+#define SETUP_EVENTS 12                                      /* of each of the first two sections of a trace */
+#define THIRD_EVENTS (STEPS / TRACES - 2 * SETUP_EVENTS)     /* all traces have STEPS events together */
+#define MOST_PARTS (STEPS / TRACES * EVENT_BYTES + 6)        /* a byte each */
+#define TEXT_BYTES (FROSTSORREL_LISTING_BYTES + 64 + FROSTSORREL_STREAM_FEED_BYTES)
 
 struct stream {
     uint8_t images[RUNS][BYTES];
@@ -47,10 +58,37 @@ struct lists {
     double best; /* nanoseconds a call */
 };
 
+/* Traces, how they are cut, and the room that each part gets. */
+struct feeds {
+    struct trace traces[TRACES];
+    uint16_t parts[TRACES][MOST_PARTS], rooms[TRACES][MOST_PARTS];
+    size_t counts[TRACES];
+};
+
+/* What a side makes of them: the texts of a trace stand one behind the other. */
+struct told {
+    uint8_t images[TRACES][BYTES], states[TRACES][FROSTSORREL_STREAM_BYTES], texts[TRACES][TEXT_BYTES];
+    size_t lengths[TRACES];
+    uint64_t last[TRACES];
+    double best; /* nanoseconds an event */
+};
+
+typedef uint64_t edge_function(uint8_t *, size_t, uint8_t *, size_t, uint8_t *, size_t);
+typedef uint64_t feed_function(uint8_t *, size_t, uint8_t *, size_t, const uint8_t *, size_t, uint8_t *, size_t);
+
+struct calls {
+    edge_function *open, *close;
+    feed_function *feed;
+};
+
+static const struct calls our_calls = {frostsorrel_stream_open, frostsorrel_stream_close, frostsorrel_stream_feed};
+static const struct calls their_calls = {reference_stream_open, reference_stream_close, reference_stream_feed};
+
 typedef uint64_t step_function(uint8_t *, size_t, const uint8_t *, size_t);
 typedef void image_function(uint8_t *image);
 typedef size_t event_function(uint8_t *event, const uint8_t *image);
 typedef void pairs_function(struct pairs *p);
+typedef size_t part_function(void);
 
 /* ---- the streams */
 
@@ -185,6 +223,63 @@ static void draw_questions(struct pairs *p)
     }
 }
 
+/* As a cable may bring them: one event at the least, four at the most. */
+static size_t some_events(void)
+{
+    return EVENT_BYTES + draw(3 * EVENT_BYTES + 1);
+}
+
+static size_t one_byte(void)
+{
+    return 1;
+}
+
+/* Room for any text of its part. */
+static void cut_trace(struct feeds *f, size_t trace, part_function *part)
+{
+    size_t at = 0, count = 0;
+
+    while (at < f->traces[trace].len) {
+        size_t left = f->traces[trace].len - at, len = part();
+
+        len = len < left ? len : left;
+        f->parts[trace][count] = (uint16_t)len;
+        f->rooms[trace][count++] = (uint16_t)(len + FROSTSORREL_STREAM_FEED_BYTES);
+        at += len;
+    }
+    f->counts[trace] = count;
+}
+
+/* Each starts with a set-up of its own and goes on as the mixed stream does. */
+static void draw_feeds(struct feeds *f, part_function *part)
+{
+    static const size_t counts[SECTIONS] = {SETUP_EVENTS, SETUP_EVENTS, THIRD_EVENTS};
+
+    for (size_t i = 0; i < TRACES; i++) {
+        draw_trace(&f->traces[i], counts, likely_event);
+        cut_trace(f, i, part);
+    }
+}
+
+/* Just the room that the reference needs for each part. */
+static void make_tight(struct feeds *f)
+{
+    uint8_t image[BYTES], state[FROSTSORREL_STREAM_BYTES], text[128];
+
+    for (size_t i = 0; i < TRACES; i++) {
+        const uint8_t *at = f->traces[i].bytes;
+
+        reference_stream_open(image, BYTES, state, sizeof state, text, sizeof text);
+        for (size_t k = 0; k < f->counts[i]; k++) {
+            uint64_t answer =
+                reference_stream_feed(image, BYTES, state, sizeof state, at, f->parts[i][k], text, sizeof text);
+
+            f->rooms[i][k] = (uint16_t)frostsorrel_answer_count(answer);
+            at += f->parts[i][k];
+        }
+    }
+}
+
 /* ---- the clock */
 
 /* Processor time, which other programs on the machine disturb less than the time of day. */
@@ -293,6 +388,117 @@ static double measure_pairs(const char *name, pairs_function *draw_pairs, list_f
     return print_ratio(name, ours.best, theirs.best);
 }
 
+static void feed_trace(const struct feeds *f, struct told *t, size_t i, const struct calls *by)
+{
+    uint8_t *image = t->images[i], *state = t->states[i], *text = t->texts[i];
+    const uint8_t *at = f->traces[i].bytes;
+
+    text += frostsorrel_answer_count(by->open(image, BYTES, state, FROSTSORREL_STREAM_BYTES, text,
+                                              FROSTSORREL_STREAM_OPEN_BYTES));
+    for (size_t k = 0; k < f->counts[i]; k++) {
+        text += frostsorrel_answer_count(by->feed(image, BYTES, state, FROSTSORREL_STREAM_BYTES, at, f->parts[i][k],
+                                                  text, f->rooms[i][k]));
+        at += f->parts[i][k];
+    }
+    t->last[i] = by->close(image, BYTES, state, FROSTSORREL_STREAM_BYTES, text, FROSTSORREL_STREAM_CLOSE_BYTES);
+    t->lengths[i] = (size_t)(text - t->texts[i]) + (size_t)frostsorrel_answer_count(t->last[i]);
+}
+
+static void time_feeds(const struct feeds *f, struct told *t, const struct calls *by)
+{
+    double began;
+
+    memset(t->texts, 0xA5, sizeof t->texts);
+    began = seconds();
+    for (size_t i = 0; i < TRACES; i++)
+        feed_trace(f, t, i, by);
+    keep_best(&t->best, began);
+}
+
+/* The whole texts, each of which is the listing of its trace, and all else. */
+static void check_told(const char *name, const struct feeds *f, const struct told *ours, const struct told *theirs)
+{
+    static char listing[LISTING_ROOM];
+
+    check(memcmp(ours->texts, theirs->texts, sizeof ours->texts) == 0 &&
+              memcmp(ours->lengths, theirs->lengths, sizeof ours->lengths) == 0,
+          "%s: library and plain C leave different texts", name);
+    check(memcmp(ours->images, theirs->images, sizeof ours->images) == 0 &&
+              memcmp(ours->states, theirs->states, sizeof ours->states) == 0,
+          "%s: library and plain C leave different images or states", name);
+    check(memcmp(ours->last, theirs->last, sizeof ours->last) == 0, "%s: library and plain C close differently", name);
+    for (size_t i = 0; i < TRACES; i++) {
+        size_t len = reference_list(listing, f->traces[i].bytes, f->traces[i].len);
+
+        check(len == ours->lengths[i] && memcmp(listing, ours->texts[i], len) == 0, "%s: a text is no listing", name);
+    }
+}
+
+/* The same for traces that are fed in parts. They are judged once before the rounds, and after each. */
+static double measure_feeds(const char *name, part_function *part, int tight, unsigned long rounds)
+{
+    static struct feeds f;
+    static struct told ours, theirs;
+
+    draw_feeds(&f, part);
+    if (tight)
+        make_tight(&f);
+    time_feeds(&f, &ours, &our_calls);
+    time_feeds(&f, &theirs, &their_calls);
+    check_told(name, &f, &ours, &theirs);
+    ours.best = theirs.best = 0;
+    for (unsigned long round = 0; round < rounds; round++) {
+        time_feeds(&f, &ours, &our_calls);
+        time_feeds(&f, &theirs, &their_calls);
+        check_told(name, &f, &ours, &theirs);
+    }
+    return print_ratio(name, ours.best, theirs.best);
+}
+
+/* ---- the stack */
+
+static struct {
+    const struct calls *by;
+    uint8_t image[BYTES], state[FROSTSORREL_STREAM_BYTES], part[6 + EVENT_BYTES], text[64];
+    size_t room;
+} on_stack;
+
+__attribute__((noinline)) static void open_on_stack(void)
+{
+    on_stack.by->open(on_stack.image, BYTES, on_stack.state, sizeof on_stack.state, on_stack.text, sizeof on_stack.text);
+}
+
+__attribute__((noinline)) static void feed_on_stack(void)
+{
+    on_stack.by->feed(on_stack.image, BYTES, on_stack.state, sizeof on_stack.state, on_stack.part, sizeof on_stack.part,
+                      on_stack.text, on_stack.room);
+}
+
+__attribute__((noinline)) static void close_on_stack(void)
+{
+    on_stack.by->close(on_stack.image, BYTES, on_stack.state, sizeof on_stack.state, on_stack.text, sizeof on_stack.text);
+}
+
+/* A part with one event of the third section, in a room that never gets a 9, and in one where it is tried first. */
+static void print_stack(const char *who, const struct calls *by)
+{
+    size_t opening, roomy, tight, closing;
+
+    memset(on_stack.part, 0, sizeof on_stack.part);
+    on_stack.part[4] = 1;
+    on_stack.part[6] = FROSTSORREL_TICK;
+    on_stack.by = by;
+    opening = stack_of(open_on_stack);
+    on_stack.room = sizeof on_stack.part + FROSTSORREL_STREAM_FEED_BYTES;
+    roomy = stack_of(feed_on_stack);
+    open_on_stack();
+    on_stack.room = sizeof "1 0 32 0\n" - 1;
+    tight = stack_of(feed_on_stack);
+    closing = stack_of(close_on_stack);
+    printf("bytes of the stack, %s: %lu opening, %lu feeding, %lu in a tight room, %lu closing\n", who,
+           (unsigned long)opening, (unsigned long)roomy, (unsigned long)tight, (unsigned long)closing);
+}
+
 static unsigned long argument(int argc, char **argv, int at, unsigned long usual)
 {
     return at < argc ? strtoul(argv[at], NULL, 10) : usual;
@@ -303,7 +509,8 @@ static void say_where(unsigned long rounds, unsigned long seed)
 {
     const char *machine = getenv("EMULATED_ON");
 
-    printf("%d steps, comparisons or explanations a round, best of %lu rounds, seed %lu\n", STEPS, rounds, seed);
+    printf("%d steps, comparisons, explanations or events fed a round, best of %lu rounds, seed %lu\n", STEPS, rounds,
+           seed);
     if (machine)
         printf("both run under the emulator for x86-64 on %s: these are not times of an x86-64 machine\n",
                machine);
@@ -313,7 +520,7 @@ static void say_where(unsigned long rounds, unsigned long seed)
 int main(int argc, char **argv)
 {
     unsigned long rounds = argument(argc, argv, 1, 15), seed = argument(argc, argv, 2, 1);
-    double ratios[6], worst = 0; /* one for each stream */
+    double ratios[9], worst = 0; /* one for each stream */
 
     if (rounds == 0 || rounds > MOST_ROUNDS)
         rounds = MOST_ROUNDS;
@@ -325,8 +532,13 @@ int main(int argc, char **argv)
     ratios[3] = measure_pairs("few differ", draw_neighbours, frostsorrel_compare, reference_compare, rounds);
     ratios[4] = measure_pairs("most differ", draw_strangers, frostsorrel_compare, reference_compare, rounds);
     ratios[5] = measure_pairs("explained", draw_questions, frostsorrel_explain, reference_explain, rounds);
+    ratios[6] = measure_feeds("fed in parts", some_events, 0, rounds);
+    ratios[7] = measure_feeds("tight rooms", some_events, 1, rounds);
+    ratios[8] = measure_feeds("byte by byte", one_byte, 0, rounds);
     for (size_t i = 0; i < sizeof ratios / sizeof ratios[0]; i++)
         worst = ratios[i] > worst ? ratios[i] : worst;
     printf("worst ratio %26.3f\n", worst);
+    print_stack("ours", &our_calls);
+    print_stack("plain C", &their_calls);
     return report("host bench");
 }

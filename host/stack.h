@@ -18,19 +18,19 @@ __attribute__((noinline)) static uint8_t paint(void)
     return below[0];
 }
 
-/* Where a function's frame begins that is called from here. */
-__attribute__((noinline)) static volatile uint8_t *frame(void)
+/* Where the frame of a function stands that is called from here. */
+__attribute__((noinline)) static volatile uint8_t *frame_of_a_call(void)
 {
     return (volatile uint8_t *)__builtin_frame_address(0);
 }
 
 /*
- * The bytes that this function and all that it calls took. Those next to the frame are the painter's own, so that
- * a few hundred are counted in any case.
+ * The bytes that this function and all that it calls took. It should have been called before: a program that is not
+ * linked statically looks up what it calls the first time, and takes more of the stack then.
  */
 static inline size_t stack_of(void (*function)(void))
 {
-    volatile uint8_t *top = frame(), *lowest = top - PAINTED + 512;
+    volatile uint8_t *top = frame_of_a_call(), *lowest = top - PAINTED + 512; /* less than what is painted */
 
     paint();
     function();

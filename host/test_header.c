@@ -35,8 +35,27 @@ static void version(void)
 
 /* ---- sizes: what the parts add up to */
 
+/*
+ * What a part can bring: a line of 13 bytes at its first byte and one for each 16 bytes more, and behind them the
+ * refusal for a byte that it has as well.
+ */
+static int lines_and_refusal_fit(void)
+{
+    size_t len;
+
+    for (len = 0; len < 2000; len++) {
+        size_t lines = len == 0 ? 0 : 1 + (len - 1) / 16, lines_before = len < 2 ? 0 : 1 + (len - 2) / 16;
+        size_t room = len + FROSTSORREL_STREAM_FEED_BYTES;
+
+        if (13 * lines > room || 13 * lines_before + (len > 0 ? 16 : 0) > room)
+            return 0;
+    }
+    return 1;
+}
+
 static void sizes(void)
 {
+    const char header[] = "step code mailbox count\n", refusal[] = "trace refused 8\n", end[] = "end 3000\n";
     const char longest_listing[] = "step code mailbox count\n" "end 3000\n";
 
     same_number("the image", FROSTSORREL_IMAGE_BYTES, 16 * FROSTSORREL_MAILBOXES + 4 * 32);
@@ -44,6 +63,11 @@ static void sizes(void)
     same_number("the longest trace", FROSTSORREL_TRACE_BYTES,
                 3 * (2 + FROSTSORREL_EVENT_BYTES * FROSTSORREL_SECTION_EVENTS));
     same_number("room for any listing", FROSTSORREL_LISTING_BYTES, strlen(longest_listing) + 3000 * 13);
+    same_number("the state of a stream", FROSTSORREL_STREAM_BYTES, 4 * 4 + FROSTSORREL_EVENT_BYTES);
+    same_number("what an opening writes", FROSTSORREL_STREAM_OPEN_BYTES, strlen(header));
+    same_number("room for a closing", FROSTSORREL_STREAM_CLOSE_BYTES, strlen(refusal));
+    check(strlen(end) <= FROSTSORREL_STREAM_CLOSE_BYTES, "room for the end line");
+    check(lines_and_refusal_fit(), "room for a feeding");
     same_number("an entry", FROSTSORREL_ENTRY_BYTES, 4 + 4 + 4);
     same_number("room for any list of differences", FROSTSORREL_DIFFERENCE_BYTES,
                 FROSTSORREL_ENTRY_BYTES * FROSTSORREL_IMAGE_WORDS);
@@ -247,6 +271,9 @@ static void answers(void)
     same_number("no room", frostsorrel_answer_refusal(0x2009), FROSTSORREL_NO_ROOM);
     same_number("a list of 155 entries", frostsorrel_answer_count(0x9B2000), 155);
     same_number("an explanation of 32 lines", frostsorrel_answer_count(0x202000), 32);
+    same_number("a stream over, with 29 bytes", frostsorrel_answer_refusal(0x1D2008), FROSTSORREL_BAD_TRACE);
+    same_number("those bytes", frostsorrel_answer_count(0x1D2008), 29);
+    same_number("39,016 bytes", frostsorrel_answer_count(0x98682000), 39016);
     same_number("a read's value", frostsorrel_read_value(0x2FFFFFFFFu), 0xFFFFFFFF);
     same_number("a read's refusal", frostsorrel_read_refusal(0x2FFFFFFFFu), 2);
 }

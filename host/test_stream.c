@@ -1,4 +1,7 @@
-/* Calls frostsorrel_stream_open, _feed and _close as a C host does, and holds them to request e) of document 02. */
+/*
+ * Calls frostsorrel_stream_open, _feed and _close as a C host does, and holds them to request e) of document 02:
+ * test_stream [NAME], which the last line calls it by.
+ */
 #include "check.h"
 #include "events.h"
 #include "frostsorrel.h"
@@ -1030,7 +1033,7 @@ static void test_stack(void)
     expect_stack("closing", close_for_stack);
 }
 
-int main(void)
+int main(int argc, char **argv)
 {
     put_pattern();
     test_whole();
@@ -1054,5 +1057,5 @@ int main(void)
     test_longest();
     test_listing();
     test_stack();
-    return report("host streams");
+    return report(argc > 1 ? argv[1] : "host streams");
 }
