@@ -426,11 +426,13 @@ static void check_told(const char *name, const struct feeds *f, const struct tol
     check(memcmp(ours->images, theirs->images, sizeof ours->images) == 0 &&
               memcmp(ours->states, theirs->states, sizeof ours->states) == 0,
           "%s: library and plain C leave different images or states", name);
-    check(memcmp(ours->last, theirs->last, sizeof ours->last) == 0, "%s: library and plain C close differently", name);
+    check(memcmp(ours->last, theirs->last, sizeof ours->last) == 0, "%s: library and plain C close differently",
+          name);
     for (size_t i = 0; i < TRACES; i++) {
         size_t len = reference_list(listing, f->traces[i].bytes, f->traces[i].len);
 
-        check(len == ours->lengths[i] && memcmp(listing, ours->texts[i], len) == 0, "%s: a text is no listing", name);
+        check(len == ours->lengths[i] && memcmp(listing, ours->texts[i], len) == 0, "%s: a text is no listing",
+              name);
     }
 }
 
@@ -465,18 +467,20 @@ static struct {
 
 __attribute__((noinline)) static void open_on_stack(void)
 {
-    on_stack.by->open(on_stack.image, BYTES, on_stack.state, sizeof on_stack.state, on_stack.text, sizeof on_stack.text);
+    on_stack.by->open(on_stack.image, BYTES, on_stack.state, sizeof on_stack.state, on_stack.text,
+                      sizeof on_stack.text);
 }
 
 __attribute__((noinline)) static void feed_on_stack(void)
 {
-    on_stack.by->feed(on_stack.image, BYTES, on_stack.state, sizeof on_stack.state, on_stack.part, sizeof on_stack.part,
-                      on_stack.text, on_stack.room);
+    on_stack.by->feed(on_stack.image, BYTES, on_stack.state, sizeof on_stack.state, on_stack.part,
+                      sizeof on_stack.part, on_stack.text, on_stack.room);
 }
 
 __attribute__((noinline)) static void close_on_stack(void)
 {
-    on_stack.by->close(on_stack.image, BYTES, on_stack.state, sizeof on_stack.state, on_stack.text, sizeof on_stack.text);
+    on_stack.by->close(on_stack.image, BYTES, on_stack.state, sizeof on_stack.state, on_stack.text,
+                       sizeof on_stack.text);
 }
 
 /* A part with one event of the third section, in a room that never gets a 9, and in one where it is tried first. */

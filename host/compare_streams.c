@@ -7,8 +7,6 @@
  * those calls others are made on copies: with wrong lengths, states that no call leaves, and images that are not
  * good. Streams also begin anywhere within a trace, where the numbers are high.
  */
-#include <stdlib.h>
-
 #include "check.h"
 #include "compare.h"
 #include "events.h"
@@ -156,7 +154,8 @@ static uint64_t answer_of(const struct call *c, const struct side *side, struct 
     uint8_t *image = e->image + GUARD, *state = e->state + GUARD, *text = e->text + GUARD;
 
     if (c->calling == FEEDING)
-        return side->feed(image, c->image_len, state, c->state_len, e->part + GUARD, c->part_len, text, c->text_len);
+        return side->feed(image, c->image_len, state, c->state_len, e->part + GUARD, c->part_len, text,
+                          c->text_len);
     return (c->calling == OPENING ? side->open : side->close)(image, c->image_len, state, c->state_len, text,
                                                                c->text_len);
 }
@@ -671,8 +670,10 @@ static void check_told(unsigned long number, const uint8_t *file, size_t len)
     size_t listed = reference_list(listing, file, len);
 
     tell_whole(&w, file, len);
-    check(told_len == w.len && memcmp(told, w.text, w.len) == 0, "step %lu: the stream does not tell the file", number);
-    check(last_refusal == w.refusal, "step %lu: the stream ends with refusal %lu", number, (unsigned long)last_refusal);
+    check(told_len == w.len && memcmp(told, w.text, w.len) == 0, "step %lu: the stream does not tell the file",
+          number);
+    check(last_refusal == w.refusal, "step %lu: the stream ends with refusal %lu", number,
+          (unsigned long)last_refusal);
     check(memcmp(next.image, w.image, BYTES) == 0, "step %lu: the stream leaves another image", number);
     if (w.refusal == FROSTSORREL_ACCEPTED)
         check(told_len == listed && memcmp(told, listing, listed) == 0,
