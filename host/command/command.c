@@ -1,8 +1,9 @@
-#define _XOPEN_SOURCE 700 /* isatty, fileno, mkstemp, realpath and fstat beside C99 */
+#define _XOPEN_SOURCE 700 /* open, isatty, fileno, mkstemp, realpath and fstat beside C99 */
 
 #include "command.h"
 
 #include <errno.h>
+#include <fcntl.h>
 #include <stdarg.h>
 #include <stdio.h>
 #include <stdlib.h>
@@ -39,8 +40,7 @@ int misused(const char *subcommand, const char *format, ...)
     return COMMAND_FAILED;
 }
 
-/* What errno says of this file. */
-static int failed_at(const char *name)
+int failed_at(const char *name)
 {
     complain("%s: %s", name, strerror(errno));
     return COMMAND_FAILED;
@@ -134,6 +134,15 @@ int read_whole(const char *path, size_t limit, struct bytes *into)
     if (file != stdin)
         fclose(file);
     return status;
+}
+
+int open_input(const char *path)
+{
+    int file = is_standard(path) ? STDIN_FILENO : open(path, O_RDONLY | O_NOCTTY);
+
+    if (file < 0)
+        failed_at(path);
+    return file;
 }
 
 int is_text(const struct bytes *file)
@@ -247,6 +256,13 @@ int text_show(const struct text *t, const char *path)
     if (!is_standard(path))
         return write_file(t, path);
     return put_and_close(t, stdout) ? COMMAND_DONE : failed_at("standard output");
+}
+
+int put_at_once(const void *bytes, size_t count)
+{
+    size_t put = fwrite(bytes, 1, count, stdout);
+
+    return put == count && fflush(stdout) == 0 ? COMMAND_DONE : failed_at("standard output");
 }
 
 int wants_colour(void)

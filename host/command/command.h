@@ -1,4 +1,4 @@
-/* What the subcommands of `frostsorrel` share: exit statuses, messages, files read and written whole. */
+/* What the subcommands of `frostsorrel` share: exit statuses, messages, files read and written, most of them whole. */
 #ifndef COMMAND_H
 #define COMMAND_H
 
@@ -14,6 +14,7 @@ enum {
 
 /* The subcommands. argv[0] is the subcommand's own name; the answer is an exit status. */
 int command_list(int argc, char **argv);
+int command_follow(int argc, char **argv);
 int command_report(int argc, char **argv);
 int command_diff(int argc, char **argv);
 int command_explain(int argc, char **argv);
@@ -31,6 +32,9 @@ PRINTF_LIKE(1, 2) void complain(const char *format, ...);
 
 /* The same for words that this subcommand does not take, with a hint to its --help. Answers COMMAND_FAILED. */
 PRINTF_LIKE(2, 3) int misused(const char *subcommand, const char *format, ...);
+
+/* What errno says of the file with this name. Answers COMMAND_FAILED. */
+int failed_at(const char *name);
 
 /* Is --help, or -h, among the words? */
 int asks_help(int argc, char **argv);
@@ -57,6 +61,12 @@ struct bytes {
  * then there is nothing to free.
  */
 int read_whole(const char *path, size_t limit, struct bytes *into);
+
+/*
+ * Opens a file that is to be read part by part, standard input for "-". Answers its number, or -1 after a message. A
+ * serial line does not become the terminal that this program is ended from.
+ */
+int open_input(const char *path);
 
 /* Is this text? Then no byte of it is 0; every trace has such bytes. */
 int is_text(const struct bytes *file);
@@ -89,6 +99,9 @@ void text_free(struct text *t);
  * a message.
  */
 int text_show(const struct text *t, const char *path);
+
+/* Writes these bytes to standard output and keeps none of them back. Answers as text_show does, which has to end it. */
+int put_at_once(const void *bytes, size_t count);
 
 /* Is standard output a terminal that may get colours? */
 int wants_colour(void);

@@ -13,9 +13,9 @@ static const struct subcommand {
     const char *name;
     int (*run)(int argc, char **argv);
 } subcommands[] = {
-    {"make", command_make},       {"report", command_report}, {"explain", command_explain},
-    {"diff", command_diff},       {"list", command_list},     {"text", command_text},
-    {"candump", command_candump}, {"registers", command_registers},
+    {"make", command_make}, {"report", command_report},   {"explain", command_explain},
+    {"diff", command_diff}, {"list", command_list},       {"follow", command_follow},
+    {"text", command_text}, {"candump", command_candump}, {"registers", command_registers},
 };
 
 static const char help[] =
@@ -26,6 +26,7 @@ static const char help[] =
     "  frostsorrel explain TRACE STEP         why the frame of a step landed where it did, mailbox by mailbox\n"
     "  frostsorrel diff TRACE STEP STEP       every word that differs between two steps of a run\n"
     "  frostsorrel list TRACE                 the listing: step, code, mailbox, count\n"
+    "  frostsorrel follow [TRACE]             the same while the trace arrives, each line as soon as it is known\n"
     "  frostsorrel text TRACE                 the scenario that makes this trace\n"
     "  frostsorrel candump LOG                the frames of a can-utils log, for a scenario\n"
     "  frostsorrel registers                  every register of a fresh model\n"

@@ -5,6 +5,11 @@
 
 static const char *const holds[SECTIONS] = {"mailbox writes", "register writes and options", "events"};
 
+const char *held_in(int section)
+{
+    return holds[section];
+}
+
 int belongs(int section, uint8_t operation)
 {
     switch (section) {
@@ -16,6 +21,32 @@ int belongs(int section, uint8_t operation)
         return 1; /* unknown operations too: the run refuses them */
     }
 }
+
+/* ---- faults in words */
+
+void say_no_count(struct text *t, int section, size_t length)
+{
+    text_add(t, "too short: the file ends at byte %lu, before the count of section %d (%s)", (unsigned long)length,
+             section + 1, holds[section]);
+}
+
+void say_over_counted(struct text *t, int section, int count, size_t at)
+{
+    text_add(t, "over-counted: section %d (%s) counts %d events at byte %lu; %d are allowed", section + 1, holds[section],
+             count, (unsigned long)at, FROSTSORREL_SECTION_EVENTS);
+}
+
+void say_too_long(struct text *t, size_t at)
+{
+    text_add(t, "too long: the third section ends at byte %lu, and more bytes follow", (unsigned long)at);
+}
+
+void say_it_is_text(struct text *t)
+{
+    text_add(t, "; this is text, and frostsorrel make makes a trace of a scenario");
+}
+
+/* ---- taking apart */
 
 /* Goes by the operation byte alone. */
 static void find_misplaced(struct trace *t, int section)
@@ -40,16 +71,14 @@ static size_t take_section(struct trace *t, int section, size_t at)
     size_t left = t->file.length - at, needed;
 
     if (left < 2) {
-        text_add(&t->fault, "too short: the file ends at byte %lu, before the count of section %d (%s)",
-                 (unsigned long)t->file.length, section + 1, holds[section]);
+        say_no_count(&t->fault, section, t->file.length);
         return at;
     }
     s->events = t->file.at + at + 2;
     s->count = t->file.at[at] | t->file.at[at + 1] << 8;
     needed = (size_t)s->count * FROSTSORREL_EVENT_BYTES;
     if (s->count > FROSTSORREL_SECTION_EVENTS)
-        text_add(&t->fault, "over-counted: section %d (%s) counts %d events at byte %lu; %d are allowed", section + 1,
-                 holds[section], s->count, (unsigned long)at, FROSTSORREL_SECTION_EVENTS);
+        say_over_counted(&t->fault, section, s->count, at);
     else if (left - 2 < needed)
         text_add(&t->fault, "too short: section %d (%s) counts %d %s %lu bytes; the file has %lu more", section + 1,
                  holds[section], s->count, s->count == 1 ? "event, which takes" : "events, which take",
@@ -67,11 +96,11 @@ void split_trace(struct trace *t)
     for (int section = 0; section < SECTIONS && !t->fault.length; section++)
         at = take_section(t, section, at);
     if (!t->fault.length && at < t->file.length)
-        text_add(&t->fault, "too long: the third section ends at byte %lu, and more bytes follow", (unsigned long)at);
+        say_too_long(&t->fault, at);
     if (!t->fault.length)
         return;
     if (is_text(&t->file))
-        text_add(&t->fault, "; this is text, and frostsorrel make makes a trace of a scenario");
+        say_it_is_text(&t->fault);
     memset(t->section, 0, sizeof t->section);
     t->events = 0;
 }
@@ -91,8 +120,13 @@ void free_trace(struct trace *t)
     text_free(&t->fault);
 }
 
+int complain_of_fault(const char *path, const char *fault)
+{
+    complain("%s: no trace: %s", name_of_input(path), fault);
+    return COMMAND_DIFFERS;
+}
+
 int complain_of_trace(const char *path, const struct trace *t)
 {
-    complain("%s: no trace: %s", name_of_input(path), t->fault.at);
-    return COMMAND_DIFFERS;
+    return complain_of_fault(path, t->fault.at);
 }

@@ -34,4 +34,21 @@ int complain_of_trace(const char *path, const struct trace *t);
 /* Which operations may stand in a section, by its number from 0. */
 int belongs(int section, uint8_t operation);
 
+/* The same in words for people. */
+const char *held_in(int section);
+
+/*
+ * Why bytes are no trace, for one that is read whole and for one that is followed. Sections are numbered from 0 here and
+ * from 1 in the words; bytes are from 0 on.
+ */
+void say_no_count(struct text *t, int section, size_t length);
+void say_over_counted(struct text *t, int section, int count, size_t at);
+void say_too_long(struct text *t, size_t at);
+
+/* To be added to these: the file is the scenario and not its trace. */
+void say_it_is_text(struct text *t);
+
+/* As complain_of_trace, in these words. */
+int complain_of_fault(const char *path, const char *fault);
+
 #endif
