@@ -43,7 +43,8 @@ use Rattle.model.proofs.Whole.{real}
 use Rattle.books.specs.Ledger.{Happening, store, acknowledge, request, cancel, start, send, fail, sleep, reset, after}
 use Rattle.books.specs.Happen.{when, byWrite, direct, happens, happenings, inSlot}
 use Rattle.books.proofs.Follows.{look, Follows, Any, none, both, Rows, table, same, once, then}
-use Rattle.books.proofs.Back.{look-back, length-after}
+use Rattle.model.proofs.Lengths.{length-after}
+use Rattle.books.proofs.Back.{look-back}
 
 -- ---- the laws of one flag, as a choice
 

@@ -3,4 +3,5 @@ pub mod Meets
 pub mod Beside
 pub mod Whole
 pub mod Kept
+pub mod Lengths
 mod Ends

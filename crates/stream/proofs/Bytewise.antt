@@ -1,5 +1,5 @@
 -- The code of one byte: the reader by value, the bytes in which it gathers, the image and the line are those of the turn.
-use Prim.Native.Nat.{ℕ, suc, _+_, _-_, _*_, _<_, _≤_}
+use Prim.Native.Nat.{ℕ, _+_, _-_, _*_, _<_, _≤_}
 use mathlib.Core.Path.{_≡_, refl, sym, _∙_, ap}
 use mathlib.Core.Bool.{Bool, true, false, cond}
 use mathlib.Core.List.{List, [], _∷_, _++_}
@@ -7,17 +7,17 @@ use mathlib.Core.Logic.{_≢_}
 use native.Mathlib.Omega.{arith}
 use native.Mathlib.Numerals.{add-one}
 use lib.Dec.{eqb}
-use lib.ListN.{length, take, getD, set, length-set}
+use lib.ListN.{length, take, getD, set}
 use lib.Seq.{length-take-le, take-all, take-suc-set, getD-take}
 use Rattle.model.specs.Step.{step}
 use Rattle.texts.specs.Text.{written, Put}
 use Rattle.texts.proofs.Writing.{as-text}
-use Rattle.trace.specs.Trace.{mostEvents, countAt, takes, line, refusedLine}
+use Rattle.trace.specs.Trace.{countAt, takes, line, refusedLine}
 use Rattle.stream.specs.declared.Reader.{Reader}
 use Rattle.stream.specs.declared.Taken.{Taken}
-use Rattle.stream.specs.Stream.{Standing, Turn, at, behind, over, fault, waits, quietly, onward, counts, runs, gathers, turn}
+use Rattle.stream.specs.Stream.{Standing, Turn, at, behind, over, fault, waits, onward, counts, runs, gathers, turn}
 use Rattle.stream.specs.Terms.{standingBy, Ready, Took, Counts}
-use Rattle.stream.proofs.Ready.{gathered-few, whole-count, line-short}
+use Rattle.stream.proofs.Ready.{whole-count}
 use Rattle.stream.proofs.Turns.{turn-over, turn-behind, turn-counts, turn-gathers, counts-low, counts-many, counts-some, gathers-fault, gathers-more, gathers-last}
 
 -- the same turn by another name

@@ -1,7 +1,7 @@
 -- The code that judges image and state before a call.
 use Prim.Native.Nat.{ℕ, _+_, _-_, _*_, _<_, _≤_}
-use mathlib.Core.Path.{_≡_, refl, sym, _∙_, ap}
-use mathlib.Core.Bool.{Bool, true, false, cond, _&&_, _||_, false≢true}
+use mathlib.Core.Path.{_≡_, refl, _∙_, ap}
+use mathlib.Core.Bool.{Bool, true, false, cond, _&&_, _||_}
 use mathlib.Core.List.{List, [], _∷_}
 use mathlib.Core.Logic.{_≢_}
 use native.Mathlib.Omega.{arith}
@@ -11,11 +11,10 @@ use borrow.Author.Tests.{eq-eqb, ne-eqb, eqb-true, eqb-false, leb-true, ltb-true
 use Rattle.bits.specs.Tests.{every}
 use Rattle.words.specs.Word.{wordAt}
 use Rattle.words.proofs.Bytes.{Bytes}
-use Rattle.registers.specs.Block.{imageBytes}
 use Rattle.trace.specs.Trace.{takes}
 use Rattle.stream.specs.declared.Reader.{Reader}
 use Rattle.stream.specs.Stream.{behind, over}
-use Rattle.stream.specs.Calls.{stateBytes, standing, seen, known, whole, allZero, lengths, ready, against}
+use Rattle.stream.specs.Calls.{standing, seen, known, whole, allZero, ready, against}
 use Rattle.stream.specs.Terms.{readerOf}
 use Rattle.stream.proofs.Ready.{steps-few}
 use Rattle.stream.proofs.State.{ranged, ready-standing}
@@ -143,15 +142,29 @@ pub record Taken (s t : List ℕ) : Type 0 where
   pub going : wordAt t 0 ≢ over
   pub left : ready t ≡ true
 
-pub taken : (s t : List ℕ) → against s t ≡ 0 → Taken s t
+-- nothing stands against a call; the stream is over; or a length or the state is none
+pub data Stands (s t : List ℕ) : ℕ → Type 0 where
+  free : Taken s t → Stands s t 0
+  past : length s ≡ 640 → length t ≡ 32 → wordAt t 0 ≡ over → Stands s t 8
+  unfit : Stands s t 1
+
+pub stands : (s t : List ℕ) → Stands s t (against s t)
 unfolding against
-taken s t = to (eqb (length s) 640) refl (eqb (length t) 32) refl (eqb (wordAt t 0) over) refl (ready t) refl
+stands s t = to (eqb (length s) 640) refl (eqb (length t) 32) refl (eqb (wordAt t 0) over) refl (ready t) refl
   where
     to : (a : Bool) → eqb (length s) 640 ≡ a → (b : Bool) → eqb (length t) 32 ≡ b → (c : Bool) → eqb (wordAt t 0) over ≡ c → (d : Bool) → ready t ≡ d
-        → _≡_ {A = ℕ} (cond (a && b) (cond c 8 (cond d 0 1)) 1) 0 → Taken s t
-    to false p b q c r d u h = absurd (omega arith)
-    to true p false q c r d u h = absurd (omega arith)
-    to true p true q true r d u h = absurd (omega arith)
-    to true p true q false r false u h = absurd (omega arith)
-    to true p true q false r true u h =
-        record { image = eqb-true _ _ p; state = eqb-true _ _ q; going = eqb-false _ _ r; left = u }
+        → Stands s t (cond (a && b) (cond c 8 (cond d 0 1)) 1)
+    to false p b q c r d u = unfit
+    to true p false q c r d u = unfit
+    to true p true q true r d u = past (eqb-true _ _ p) (eqb-true _ _ q) (eqb-true _ _ r)
+    to true p true q false r false u = unfit
+    to true p true q false r true u =
+        free (record { image = eqb-true _ _ p; state = eqb-true _ _ q; going = eqb-false _ _ r; left = u })
+
+pub taken : (s t : List ℕ) → against s t ≡ 0 → Taken s t
+taken s t h = to (stands s t) h
+  where
+    to : {r : ℕ} → Stands s t r → r ≡ 0 → Taken s t
+    to (free k) e = k
+    to (past h k o) e = absurd (omega arith)
+    to unfit e = absurd (omega arith)

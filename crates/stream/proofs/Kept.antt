@@ -1,11 +1,9 @@
 -- The code of the state bytes: what it writes there is the state of where the stream stands.
 use Prim.Native.Nat.{ℕ, _+_, _-_, _≤_}
-use mathlib.Core.Path.{_≡_, refl, sym, _∙_, ap}
-use mathlib.Core.Bool.{cond}
-use mathlib.Core.List.{List, [], _∷_, _++_, append-assoc, append-nil}
+use mathlib.Core.Path.{_≡_, sym, _∙_, ap}
+use mathlib.Core.List.{List, [], _++_, append-assoc, append-nil}
 use mathlib.Core.Logic.{_≢_}
 use native.Mathlib.Omega.{arith}
-use lib.Dec.{eqb}
 use lib.ListN.{length, take, drop, replicate, length-append, length-replicate, replicate-append-replicate}
 use lib.Seq.{length-take-le, drop-at, drop-length}
 use borrow.Author.Tests.{eq-eqb, ne-eqb}
@@ -13,7 +11,7 @@ use Rattle.texts.specs.Text.{wordBytes, Put}
 use Rattle.texts.proofs.Writing.{at-front, both-put, kept}
 use Rattle.trace.specs.Trace.{ending, refusedLine}
 use Rattle.stream.specs.declared.Reader.{Reader}
-use Rattle.stream.specs.Stream.{Standing, at, behind, lastLine}
+use Rattle.stream.specs.Stream.{at, behind, lastLine}
 use Rattle.stream.specs.Calls.{stateOf}
 use Rattle.stream.specs.Terms.{standingBy}
 

@@ -1,25 +1,24 @@
 -- The code of the calls: what each leaves and answers.
-use Prim.Native.Nat.{ℕ, _+_, _<_, _≤_}
+use Prim.Native.Nat.{ℕ, _<_, _≤_}
 use mathlib.Core.Path.{_≡_, refl, sym, _∙_, ap, ap₂, subst}
-use mathlib.Core.Bool.{Bool, true, false, cond, _&&_, and-false}
-use mathlib.Core.List.{List, [], _∷_, _++_}
+use mathlib.Core.Bool.{Bool, true, false, cond, _&&_}
+use mathlib.Core.List.{List, []}
 use mathlib.Core.Logic.{_≢_}
 use native.Mathlib.Omega.{arith}
-use lib.Dec.{eqb, ltb, leb}
-use lib.ListN.{length, take, drop}
+use lib.Dec.{eqb, leb}
+use lib.ListN.{length, take}
 use borrow.Author.Tests.{eqb-true, eq-eqb, ne-eqb, lt-ltb, le-ltb, leb-true, leb-false}
-use Rattle.words.specs.Word.{wordAt}
 use Rattle.words.proofs.Bytes.{Bytes}
 use Rattle.answers.specs.Answer.{noMailbox, packed, Promise}
-use Rattle.fresh.specs.Fresh.{freshImage, fresh}
-use Rattle.texts.specs.Text.{written, Put}
+use Rattle.fresh.specs.Fresh.{fresh}
+use Rattle.texts.specs.Text.{Put}
 use Rattle.texts.proofs.Writing.{at-front, front-of}
 use Rattle.trace.specs.Trace.{header, refusedLine, ending}
 use Rattle.trace.proofs.Bound.{ending-most}
 use Rattle.stream.specs.declared.Reader.{Reader}
 use Rattle.stream.specs.declared.Taken.{Taken as Tally}
 use Rattle.stream.specs.Stream.{Standing, at, behind, over, opened, ended, fed, printed, lastLine}
-use Rattle.stream.specs.Calls.{stateOf, standing, seen, Call, refused, prints, lengths, against, unless, opening, fedCall, lastCall, Leaves}
+use Rattle.stream.specs.Calls.{stateOf, standing, seen, Call, refused, prints, unless, opening, fedCall, lastCall, Leaves}
 use Rattle.stream.specs.Terms.{standingBy, readerOf, Ready, Taking}
 use Rattle.stream.proofs.Ready.{steps-few, printed-most}
 use Rattle.stream.proofs.State.{ready-standing, seen-few}

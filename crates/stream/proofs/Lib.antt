@@ -15,3 +15,4 @@ pub mod Came
 pub mod Fitting
 pub mod Viable
 pub mod States
+pub mod Streams

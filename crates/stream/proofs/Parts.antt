@@ -1,6 +1,6 @@
 -- The code of a part: the state is read, the part is taken, and the state is written again.
-use Prim.Native.Nat.{ℕ, _+_, _-_, _<_, _≤_}
-use mathlib.Core.Path.{_≡_, refl, sym, _∙_, ap, ap₂, subst}
+use Prim.Native.Nat.{ℕ, _-_}
+use mathlib.Core.Path.{_≡_, sym, _∙_, ap, ap₂, subst}
 use mathlib.Core.List.{List, []}
 use native.Mathlib.Omega.{arith}
 use lib.ListN.{length, take, drop, length-drop}
@@ -8,7 +8,7 @@ use lib.Seq.{take-all}
 use Rattle.texts.specs.Text.{Put}
 use Rattle.stream.specs.declared.Reader.{Reader}
 use Rattle.stream.specs.declared.Taken.{Taken}
-use Rattle.stream.specs.Stream.{Standing, fed}
+use Rattle.stream.specs.Stream.{Standing}
 use Rattle.stream.specs.Calls.{stateOf, standing}
 use Rattle.stream.specs.Terms.{standingBy, readerOf, Ready, Fed, Taking}
 use Rattle.stream.proofs.Kept.{copied}

@@ -1,20 +1,19 @@
 -- A stream stands where it can stand, byte for byte; and how long its text can be.
-use Prim.Native.Nat.{ℕ, zero, suc, _+_, _-_, _*_, _<_, _≤_}
-use mathlib.Core.Path.{_≡_, refl, sym, _∙_, ap}
+use Prim.Native.Nat.{ℕ, _+_, _-_, _*_, _<_, _≤_}
+use mathlib.Core.Path.{_≡_, refl, ap}
 use mathlib.Core.Bool.{Bool, true, false, cond}
 use mathlib.Core.List.{List, [], _∷_, _++_}
 use mathlib.Core.Logic.{_≢_}
 use native.Mathlib.Omega.{arith}
-use lib.Dec.{eqb, ltb}
-use lib.ListN.{length, getD, length-append}
+use lib.Dec.{eqb}
+use lib.ListN.{length, length-append}
 use borrow.Author.Tests.{eqb-true, eqb-false, eq-eqb, ne-eqb}
 use Rattle.words.proofs.Bytes.{Bytes, bytes-nil, bytes-cons, bytes-tail, bytes-append}
 use Rattle.model.specs.Step.{step}
-use Rattle.trace.specs.Trace.{mostEvents, countAt, takes, line, refusedLine}
+use Rattle.trace.specs.Trace.{countAt, line, refusedLine}
 use Rattle.trace.proofs.Answers.{step-small}
 use Rattle.trace.proofs.Bound.{line-most}
-use Rattle.fresh.specs.Fresh.{freshImage}
-use Rattle.stream.specs.Stream.{Standing, Turn, at, behind, over, opened, ended, quietly, fault, waits, onward, runs, turn, fed, printed}
+use Rattle.stream.specs.Stream.{Standing, Turn, at, behind, over, opened, ended, fault, onward, runs, turn, fed, printed}
 use Rattle.stream.specs.Calls.{whole}
 use Rattle.stream.specs.Terms.{Ready}
 use Rattle.stream.proofs.Cuts.{printed-over}

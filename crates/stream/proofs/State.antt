@@ -39,7 +39,7 @@ module _ (σ : Standing) (d : Ready σ) where
   unfolding stateOf
   length-state = omega (arith, length-append g zeros, length-replicate {A = ℕ} (16 - length g) 0, gathered-few σ d)
 
-  section-back : wordAt t 0 ≡ σ .section
+  pub section-back : wordAt t 0 ≡ σ .section
   unfolding stateOf wordAt
   section-back = bytes-of (σ .section) (omega (arith, d .last))
 

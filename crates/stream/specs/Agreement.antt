@@ -1,16 +1,17 @@
 -- What is proved of a stream (document 02, request e): it hangs on the bytes of the trace alone, not on how they are cut; of a trace it tells what the
 -- trace program tells; where the fault lies; and which states are taken.
-use Prim.Native.Nat.{ℕ}
+use Prim.Native.Nat.{ℕ, _+_, _<_, _≤_}
 use mathlib.Core.Path.{_≡_}
-use mathlib.Core.Bool.{Bool, true, false, cond}
+use mathlib.Core.Bool.{Bool, true, false, cond, not, _&&_}
 use mathlib.Core.List.{List, [], _∷_, _++_, flatMap}
 use mathlib.Core.Logic.{_≢_, _↔_}
+use lib.Dec.{eqb}
 use lib.ListN.{length, take}
 use Rattle.words.specs.Bytes.{Bytes}
 use Rattle.fresh.specs.Fresh.{freshImage}
 use Rattle.trace.specs.Trace.{wellFormed, events, lines, imageAfter, header, refusedLine, listing}
-use Rattle.stream.specs.Stream.{isOver, opened, fed, complete, transcript}
-use Rattle.stream.specs.Calls.{stateOf, ready}
+use Rattle.stream.specs.Stream.{isOver, opened, fed, printed, complete, lastLine, transcript}
+use Rattle.stream.specs.Calls.{stateOf, standing, ready, Call, refused, against, opening, feeding, closing}
 
 -- ---- a file, byte by byte
 
@@ -51,3 +52,78 @@ pub record Reached (t : List ℕ) : Type 0 where
 
 abbrev pub States : Type 0
 States = (t : List ℕ) → Bytes t → length t ≡ 32 → (ready t ≡ true) ↔ Reached t
+
+-- ---- a stream: an opening, feedings, a closing
+
+-- What a caller has after some calls: image, state, the texts that were written, one behind the other, and the last refusal.
+pub record Held : Type 0 where
+  pub image : List ℕ
+  pub state : List ℕ
+  pub text : List ℕ
+  pub refusal : ℕ
+
+abbrev pub after : Held → Call → Held
+after h c = record { image = c .image; state = c .state; text = h .text ++ take (c .bytes) (c .text); refusal = c .refusal }
+
+-- A part, and the bytes that are lent for its text.
+pub record Part : Type 0 where
+  pub part : List ℕ
+  pub lent : List ℕ
+
+abbrev pub fedTo : Held → Part → Call
+fedTo h q = feeding (h .image) (h .state) (q .part) (q .lent)
+
+unfoldable pub afterParts : Held → List Part → Held
+afterParts h [] = h
+afterParts h (q ∷ l) = afterParts (after h (fedTo h q)) l
+
+-- Does no part get a 9?
+unfoldable pub roomy : Held → List Part → Bool
+roomy h [] = true
+roomy h (q ∷ l) = not (eqb (fedTo h q .refusal) 9) && roomy (after h (fedTo h q)) l
+
+-- Opened on any bytes s and t of their lengths, and closed.
+abbrev pub begun : List ℕ → List ℕ → List ℕ → Held
+begun s t o = after (record { image = s; state = t; text = []; refusal = 0 }) (opening s t o)
+
+abbrev pub lastOf : Held → List ℕ → Call
+lastOf h e = closing (h .image) (h .state) e
+
+-- The bytes of all parts.
+abbrev pub file : List Part → List ℕ
+file l = flatMap (λ q. q .part) l
+
+-- Traces in parts: however a file is cut, and whatever bytes are lent, as long as they are enough: the texts together, the last image and the last
+-- refusal hang on the file alone.
+pub record Ends (f : List ℕ) (h : Held) : Type 0 where
+  pub text : h .text ≡ transcript f
+  pub image : h .image ≡ fed opened f .image
+  pub refusal : h .refusal ≡ cond (wellFormed f) 0 8
+
+abbrev pub Cutting : Type 0
+Cutting =
+    (s t o : List ℕ) (l : List Part) (e : List ℕ) → length s ≡ 640 → length t ≡ 32 → Bytes (file l) → opening s t o .refusal ≢ 9
+    → roomy (begun s t o) l ≡ true → lastOf (afterParts (begun s t o) l) e .refusal ≢ 9
+    → Ends (file l) (after (afterParts (begun s t o) l) (lastOf (afterParts (begun s t o) l) e))
+
+-- Traces in parts: 9 exactly where what the call would print does not fit, and then nothing changes.
+pub record Nine (s t o text : List ℕ) (c : Call) : Type 0 where
+  pub exactly : (c .refusal ≡ 9) ↔ (length o < length text)
+  pub unchanged : c .refusal ≡ 9 → c ≡ refused s t o 9
+
+-- Traces in parts: so with each call that nothing else stands against; and 31 bytes more than the part has are enough for any part.
+pub record Rooms : Type 0 where
+  pub opens : (s t o : List ℕ) → length s ≡ 640 → length t ≡ 32 → Nine s t o header (opening s t o)
+  pub feeds : (s t p o : List ℕ) → against s t ≡ 0 → Nine s t o (printed (standing s t) p) (feeding s t p o)
+  pub closes : (s t o : List ℕ) → against s t ≡ 0 → Nine s t o (lastLine (standing s t)) (closing s t o)
+  pub enough : (s t p o : List ℕ) → Bytes t → Bytes p → length p + 31 ≤ length o → feeding s t p o .refusal ≢ 9
+
+-- Traces in parts: it is over: whatever is called, the answer is 8, and nothing changes.
+pub record Over (s t : List ℕ) : Type 0 where
+  pub feeds : (p o : List ℕ) → feeding s t p o ≡ refused s t o 8
+  pub closes : (o : List ℕ) → closing s t o ≡ refused s t o 8
+
+-- Traces in parts: so after every 8, and after every closing that was neither 1 nor 9.
+pub record Finished : Type 0 where
+  pub fed : (s t p o : List ℕ) → Bytes t → Bytes p → feeding s t p o .refusal ≡ 8 → Over (feeding s t p o .image) (feeding s t p o .state)
+  pub closed : (s t o : List ℕ) → closing s t o .refusal ≢ 1 → closing s t o .refusal ≢ 9 → Over (closing s t o .image) (closing s t o .state)

@@ -1,6 +1,6 @@
 -- Document 02, request e: the 32 bytes in which a stream stands between two calls, and what each call leaves and answers. The image s, the state
 -- t and the text o are the bytes that were lent, p is the part.
-use Prim.Native.Nat.{ℕ, _+_, _-_, _*_, _%_}
+use Prim.Native.Nat.{ℕ, _+_, _-_, _*_}
 use mathlib.Core.Path.{_≡_}
 use mathlib.Core.Bool.{Bool, true, cond, _&&_, _||_}
 use mathlib.Core.List.{List, [], _∷_, _++_}

@@ -11,7 +11,7 @@ use Rattle.trace.specs.Trace.{takes}
 use Rattle.stream.specs.declared.Reader.{Reader}
 use Rattle.stream.specs.declared.Taken.{Taken}
 use Rattle.stream.specs.Stream.{Standing, Turn, at, behind, over, counts, fed, printed}
-use Rattle.stream.specs.Calls.{stateOf, standing, whole}
+use Rattle.stream.specs.Calls.{stateOf, whole}
 
 -- The reader by value, the 16 bytes e in which it gathers, and the image s.
 abbrev pub standingBy : Reader → List ℕ → List ℕ → Standing

@@ -1,10 +1,9 @@
 // Document 02, request e: a trace that arrives in parts, and the C entry points of it. The crate is an object of its own in the archive, as
 // that of the listing is: beside the entry point of the step it would be a second caller of it.
 ghost use mathlib.Core.Path.{_≡_};
-ghost use mathlib.Core.Bool.{Bool, true, cond};
-ghost use mathlib.Core.List.{List, []};
-ghost use mathlib.Core.Logic.{_≢_};
-ghost use Prim.Native.Nat.{ℕ, _+_, _<_, _≤_};
+ghost use mathlib.Core.Bool.{true, cond};
+ghost use mathlib.Core.List.{[]};
+ghost use Prim.Native.Nat.{_+_, _<_, _≤_};
 ghost use lib.Dec.{eqb, leb};
 ghost use lib.ListN.{length, take, drop};
 ghost use Rattle.texts.specs.Text.{Put};

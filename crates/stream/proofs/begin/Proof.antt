@@ -1,6 +1,6 @@
 use mathlib.Core.List.{[]}
 use Rattle.stream.proofs.Leaving.{no-room, printed-there, fresh-there, nothing-gathered}
-use mathlib.Core.Path.{refl, _∙_}
+use mathlib.Core.Path.{_∙_}
 use Rattle.fresh.specs.Fresh.{freshImage}
 use Rattle.trace.specs.Trace.{header}
 use Rattle.stream.specs.Stream.{opened}

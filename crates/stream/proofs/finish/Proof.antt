@@ -1,8 +1,7 @@
 use mathlib.Core.List.{[]}
 use Rattle.stream.proofs.Judging.{taken}
 use Rattle.stream.proofs.Leaving.{steps-most, last-most, last-no-room, last-there}
-use Prim.Native.Nat.{_≤_}
-use mathlib.Core.Path.{refl, sym, _∙_}
+use mathlib.Core.Path.{refl, sym}
 use lib.Seq.{length-take-le}
 use Rattle.words.specs.Bytes.{Bytes}
 use native.Mathlib.Omega.{arith}

@@ -1,6 +1,5 @@
 use Rattle.stream.proofs.Kept.{g-length, room-behind, state-kept}
 use mathlib.Core.Path.{refl, sym}
-use native.Mathlib.Omega.{arith}
 use borrow.Author.Needs.{needs}
 use Rattle.stream.proofs.keep.Statement.{statement}
 use Rattle.stream.proofs.keep.Tie as tie

@@ -1,5 +1,5 @@
 use Rattle.stream.proofs.Parts.{event-length, stands, part-taken}
-use mathlib.Core.Path.{refl, ap, _∙_}
+use mathlib.Core.Path.{refl, ap}
 use Rattle.stream.specs.declared.Reader.{Reader}
 use native.Mathlib.Omega.{arith}
 use borrow.Author.Needs.{needs}

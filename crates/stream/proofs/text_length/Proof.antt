@@ -1,12 +1,10 @@
 use Rattle.stream.proofs.Kept.{copied}
-use Prim.Native.Nat.{ℕ, _≤_}
-use mathlib.Core.Path.{_≡_, sym, _∙_, ap₂}
+use Prim.Native.Nat.{ℕ}
+use mathlib.Core.Path.{_∙_, ap₂}
 use mathlib.Core.List.{List}
 use lib.ListN.{length}
 use Rattle.stream.specs.Stream.{printed}
-use Rattle.stream.specs.Calls.{seen, standing}
-use Rattle.stream.specs.Terms.{Ready}
-use native.Mathlib.Omega.{arith}
+use Rattle.stream.specs.Calls.{standing}
 use borrow.Author.Needs.{needs}
 use Rattle.stream.proofs.text_length.Statement.{statement}
 use Rattle.stream.proofs.text_length.Tie as tie
