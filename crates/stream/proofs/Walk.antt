@@ -11,6 +11,7 @@ use Rattle.fresh.specs.Fresh.{freshImage}
 use Rattle.model.specs.Step.{step}
 use Rattle.trace.specs.Trace.{countAt, takes, wellFormed, events, lines, imageAfter, run, listing}
 use Rattle.rules.specs.Listing.{counted, Section, Trace}
+use Rattle.rules.proofs.Exact.{exact}
 use Rattle.rules.proofs.Files.{is-trace, trace-formed}
 use Rattle.stream.specs.Stream.{Standing, Turn, at, behind, over, opened, quietly, waits, onward, counts, runs, gathers, turn}
 use Rattle.stream.specs.Stream.{fed, complete, lastLine, transcript}
@@ -158,8 +159,11 @@ agreement f small h =
     let t = story opened (omega arith) f in
     let going = ne-eqb (fed opened f .section) over (λ e. omega (arith, r .0)) in
     let n : fed opened f .steps ≡ length (events f) = omega (arith, t .steps-are going, ap length (r .1)) in
+    let text : transcript f ≡ listing f =
+    rw (h, t .text-is, going, eq-eqb (fed opened f .section) behind (r .0), n, r .1, append-nil (lines 1 freshImage (events f))) in
     record {
-      text = rw (h, t .text-is, going, eq-eqb (fed opened f .section) behind (r .0), n, r .1, append-nil (lines 1 freshImage (events f)));
+      text = text;
+      rule = exact .listing-exact f small (transcript f) .1 text;
       image = t .image-is ∙ ap (imageAfter freshImage) (r .1);
     }
 

@@ -10,14 +10,17 @@ use lib.ListN.{length, take}
 use Rattle.words.specs.Bytes.{Bytes}
 use Rattle.fresh.specs.Fresh.{freshImage}
 use Rattle.trace.specs.Trace.{wellFormed, events, lines, imageAfter, header, refusedLine, listing}
+use Rattle.rules.specs.Listing.{Listing}
 use Rattle.stream.specs.Stream.{isOver, opened, fed, printed, complete, lastLine, transcript}
 use Rattle.stream.specs.Calls.{stateOf, standing, ready, Call, refused, against, opening, feeding, closing}
 
 -- ---- a file, byte by byte
 
--- Traces in parts: of a well-formed file the text is the listing of the whole-file program, and the image is what its events leave.
+-- Traces in parts: of a well-formed file the text is the listing of the whole-file program, the one that the rulebook asks for, and the image is
+-- what its events leave.
 pub record Agrees (f : List ℕ) : Type 0 where
   pub text : transcript f ≡ listing f
+  pub rule : Listing f (transcript f)
   pub image : fed opened f .image ≡ imageAfter freshImage (events f)
 
 abbrev pub Agreement : Type 0

@@ -50,7 +50,7 @@ allZero (x ∷ l) = eqb x 0 && allZero l
 
 -- Traces in parts: does a call leave such a state, in a stream that is not over? In a section, or behind the third; no more than 1,000 events
 -- left, and none behind the third; no more in all than 1,000 for each section whose count is known; fewer bytes gathered than complete it; an
--- event's first byte in its place; zeros behind what is gathered. That these are exactly the states that some bytes lead to is `Reached`.
+-- event's first byte in its place; zeros behind what is gathered. That these are exactly the states that some bytes lead to is proved (`States`).
 abbrev pub ranges : List ℕ → List Bool
 ranges t =
     let k = wordAt t 0 in

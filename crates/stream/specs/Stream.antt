@@ -1,5 +1,6 @@
 -- Document 02, request e: a trace that arrives in parts, byte by byte: where a stream stands, what one more byte makes of it, of the image and
--- of the text, and what any bytes do. What a trace may have and how its lines read is said in the crate `trace`, and what a step does in `model`.
+-- of the text, and what any bytes do. What a trace may have and how its lines read is said in the crate `trace`, what a
+-- step does in `model`; the crate `rules` shows both to be the rulebook's.
 use Prim.Native.Nat.{ℕ, _+_, _-_}
 use mathlib.Core.Bool.{Bool, cond}
 use mathlib.Core.List.{List, [], _∷_, _++_}

@@ -18,8 +18,13 @@ use trace::text::put_ending;
 
 const STATE_BYTES: usize = 32;
 
-// Where the reading stands, as the first four words of the state have it: the section, 4 behind the third, 5 where it is over; the events of it
-// that are not complete, 0 while its count is read; the events that are complete; how many bytes are gathered of a count or an event.
+// In the place of a section: behind the third, and over.
+const BEHIND: u32 = 4;
+
+const OVER: u32 = 5;
+
+// Where the reading stands, as the first four words of the state have it: the section, or BEHIND, or OVER; the events of it that are not complete,
+// 0 while its count is read; the events that are complete; how many bytes are gathered of a count or an event.
 pub struct Reader {
     pub section: u32,
     pub left: u32,
@@ -43,7 +48,7 @@ fn fault(line: &mut [u8]) -> Taken
     let length = put_text(line, 0, b"trace refused 8\n");
     Taken {
         reader: Reader {
-            section: 5,
+            section: OVER,
             left: 0,
             steps: 0,
             seen: 0,
@@ -117,17 +122,18 @@ fn gather(r: Reader, event: &[u8], image: &mut [u8], line: &mut [u8]) -> Taken
     }
 }
 
+// Traces in parts: one byte more. Behind the third section it is the fault; once it is over it does nothing.
 fn turn(r: Reader, event: &mut [u8], image: &mut [u8], x: u8, line: &mut [u8]) -> Taken
     requires { ⌜ Ready (standingBy r (now event) (now image)) × (r .seen ≤ 15) × (length (now event) ≡ 16) × (length (now line) ≡ 16) ⌝ }
     ensures { λ t. ⌜ Took (turnOf (standingBy r (now (event .entry)) (now (image .entry))) x) (now (line .entry)) (now (event .exit)) (now (image .exit)) (now (line .exit)) t ⌝ }
 {
-    if r.section == 5 {
+    if r.section == OVER {
         return Taken {
             reader: r,
             length: 0,
         };
     }
-    if r.section == 4 {
+    if r.section == BEHIND {
         return fault(line);
     }
     event[r.seen as usize] = x;
@@ -172,6 +178,7 @@ fn take_bytes(r: Reader, event: &mut [u8], image: &mut [u8], part: &[u8], out: &
 
 // ---- the state bytes
 
+// What the first four words say; the bytes behind them are what is gathered.
 fn reader_of(state: &[u8]) -> Reader
     requires { ⌜ length (now state) ≡ stateBytes ⌝ }
     ensures { λ r. ⌜ r ≡ readerOf (now (state .entry)) ⌝ }
@@ -199,6 +206,7 @@ fn keep(state: &mut [u8], r: Reader, event: &[u8])
     put_text(state, 0, &bytes);
 }
 
+// Are all bytes zero from `at` on?
 fn is_zero_from(bytes: &[u8], at: usize) -> bool
     ensures { λ b. ⌜ b ≡ allZero (drop at (now (bytes .entry))) ⌝ }
 {
@@ -221,17 +229,18 @@ fn is_ready(state: &[u8]) -> bool
     if r.section == 0 {
         return false;
     }
-    if r.section > 4 {
+    if r.section > BEHIND {
         return false;
     }
-    if r.left > bits::choose(r.section == 4, 0, 1000) {
+    if r.left > bits::choose(r.section == BEHIND, 0, 1000) {
         return false;
     }
+    // So many at most in three sections; more could make the sum below too large for a word.
     if r.steps > 3000 {
         return false;
     }
     let known = bits::choose(r.left == 0, r.section - 1, r.section);
-    let whole = bits::choose(r.section == 4, 1, bits::choose(r.left == 0, 2, 16));
+    let whole = bits::choose(r.section == BEHIND, 1, bits::choose(r.left == 0, 2, 16));
     if r.seen >= whole {
         return false;
     }
@@ -250,7 +259,7 @@ fn against(image: &[u8], state: &[u8]) -> u32
     if state.len() != STATE_BYTES {
         return 1;
     }
-    if words::word_at(state, 0) == 5 {
+    if words::word_at(state, 0) == OVER {
         return 8;
     }
     if !is_ready(state) {
@@ -313,7 +322,11 @@ fn take_in(image: &mut [u8], state: &mut [u8], part: &[u8], text: &mut [u8]) -> 
     }
     let p = take_part(image, state, part, text);
     let next = p.reader;
-    answers::pack(bits::choose(next.section == 5, 8, 0), 32, p.length as u32)
+    answers::pack(
+        bits::choose(next.section == OVER, 8, 0),
+        32,
+        p.length as u32,
+    )
 }
 
 // The line of the closing.
@@ -321,7 +334,7 @@ fn put_last_line(r: Reader, line: &mut [u8]) -> usize
     requires { ⌜ (r .steps ≤ 3000) × (length (now line) ≡ 16) ⌝ }
     ensures { λ n. ⌜ Put (now (line .entry)) 0 (lastLine (at (r .section) (r .left) (r .steps) [] [])) (now (line .exit)) n ⌝ }
 {
-    if r.section == 4 {
+    if r.section == BEHIND {
         return put_ending(line, 0, r.steps as u64);
     }
     put_text(line, 0, b"trace refused 8\n")
@@ -340,14 +353,14 @@ fn finish(image: &[u8], state: &mut [u8], text: &mut [u8]) -> u64
     }
     let event = [0u8; 16];
     let none = Reader {
-        section: 5,
+        section: OVER,
         left: 0,
         steps: 0,
         seen: 0,
     };
     keep(state, none, &event);
     put_text(text, 0, &line[..n]);
-    answers::pack(bits::choose(r.section == 4, 0, 8), 32, n as u32)
+    answers::pack(bits::choose(r.section == BEHIND, 0, 8), 32, n as u32)
 }
 
 // The opening of image and state that are of their length.
