@@ -51,7 +51,7 @@ extern "C" {
 #define FROSTSORREL_LINE_BYTES 8          /* of an explanation */
 #define FROSTSORREL_EXPLANATION_BYTES 256 /* room for any explanation: a line for each mailbox */
 
-/* The refusals. Where several apply, the lowest is given. */
+/* The refusals. Where several apply, the lowest is given; the calls of a stream have an order of their own. */
 enum {
     FROSTSORREL_ACCEPTED = 0,
     FROSTSORREL_BAD_IMAGE = 1,   /* the image is not good; of a stream: its length, or the state */
@@ -342,28 +342,42 @@ uint64_t frostsorrel_listing(const uint8_t *trace, size_t trace_len, uint8_t *te
  *
  * An answer has the refusal, mailbox 32, and in the count how many bytes were written to the front of `text`;
  * every byte of `text` behind them stays. The first four write nothing, and change neither image nor state: a
- * call that got 9 can be made again with a larger `text`. A part of length 0 answers refusal 0 and writes
- * nothing. An image of 640 bytes that is not good is no refusal of the call: each line says 1, as the step
- * does. The 640 and 32 bytes, `part` and `text` may not overlap.
+ * call that got 9 can be made again with a larger `text`. Where none of them applies, a part of length 0
+ * answers refusal 0, writes nothing and changes nothing, and a closing changes no byte of the image. An image
+ * of 640 bytes that is not good is no refusal of the call: each line says 1, as the step does. Image, state,
+ * `part` and `text` may not overlap.
  *
  * Room that never gets a 9: 24 bytes for an opening, part_len + 31 for a feeding (no feeding needs more than
  * 39,016), 16 for a closing. With that room a feeding goes over the part once. With less it first tries the
- * part on copies of image and state, to know how long its text is.
+ * part on copies of image and state, to know how long its text is. STACK
  *
- * The state, should you want to look: four words, low byte first, and 16 bytes.
+ * The state, should you want to look: four words, low byte first (frostsorrel_stream_word), and 16 bytes.
  *
- *   word 0   the section that is being read, 1 to 3; 4 behind the third; 5 where the stream is over
- *   word 1   how many events of that section are not complete; 0 while its count is read, in 4 and in 5
- *   word 2   how many events are complete; 0 in 5
- *   word 3   how many bytes are there of a count or an event that is not complete; 0 in 5
- *   then     those bytes, the others 0
+ *   FROSTSORREL_STREAM_SECTION    the section that is being read, 1 to 3; behind the third 4, where a closing
+ *                                 answers refusal 0; 5 where the stream is over
+ *   FROSTSORREL_STREAM_LEFT       how many events of that section are not complete; 0 while its count is read,
+ *                                 in 4 and in 5
+ *   FROSTSORREL_STREAM_STEPS      how many events are complete; 0 in 5
+ *   FROSTSORREL_STREAM_GATHERED   how many bytes are there of a count or an event that is not complete; 0 in 5
+ *   then                          those bytes, the others 0
  *
- * No call leaves a state with word 0 other than 1 to 5; with more events, complete or not, than 1,000 for
- * each section whose count is known; with more than 1,000 in word 1; with an event's bytes whose first may
- * not stand in that section; with as many bytes as the count (2) or the event (16) has; or, in 4, with
- * anything but 0 in word 1 or 3; or with another byte than 0 behind those that are there. In 5 the rest does
- * not matter: the stream is over.
+ * With its last event, or with a count of 0, a section is left: the next one's count is being read.
+ *
+ * No call leaves a state in another section than 1 to 5; with more events, complete or not, than 1,000 for
+ * each section whose count is known; with more than 1,000 left; with an event's bytes whose first may not
+ * stand in that section; with as many bytes as complete the count (2) or the event (16), or more; in 4 with
+ * any event left or any byte there; or with another byte than 0 behind those that are there. In 5 the rest
+ * does not matter: the stream is over. The state never hangs on the image. So, to find the byte that has the
+ * fault, keep the state from before the part, and feed the part again byte by byte.
  */
+enum {
+    FROSTSORREL_STREAM_SECTION = 0,
+    FROSTSORREL_STREAM_LEFT = 1,
+    FROSTSORREL_STREAM_STEPS = 2,
+    FROSTSORREL_STREAM_GATHERED = 3
+};
+enum { FROSTSORREL_STREAM_BEHIND = 4, FROSTSORREL_STREAM_OVER = 5 }; /* in the place of a section */
+
 uint64_t frostsorrel_stream_open(uint8_t *image, size_t image_len, uint8_t *state, size_t state_len,
                                  uint8_t *text, size_t text_len);
 uint64_t frostsorrel_stream_feed(uint8_t *image, size_t image_len, uint8_t *state, size_t state_len,
@@ -562,6 +576,12 @@ static inline uint32_t frostsorrel_data_bytes(uint32_t word_1)
 static inline uint32_t frostsorrel_register_word(const uint8_t *image, uint32_t number)
 {
     return frostsorrel_word(image + 16 * FROSTSORREL_MAILBOXES + 4 * number);
+}
+
+/* Word 0 to 3 of the state of a stream. */
+static inline uint32_t frostsorrel_stream_word(const uint8_t *state, uint32_t word)
+{
+    return frostsorrel_word(state + 4 * word);
 }
 
 /* ---- lists of differences: entry 0 and on, as many as the answer counts */

@@ -1,50 +1,71 @@
--- The code of one byte: the reader by value, the bytes in which it gathers, the image and the line are those of the turn.
+-- The code of some bytes: the reader by value, the bytes in which it gathers, the image and the line are where the stream then stands.
 use Prim.Native.Nat.{ℕ, _+_, _-_, _*_, _<_, _≤_}
 use mathlib.Core.Path.{_≡_, refl, sym, _∙_, ap}
 use mathlib.Core.Bool.{Bool, true, false, cond}
-use mathlib.Core.List.{List, [], _∷_, _++_}
+use mathlib.Core.List.{List, [], _∷_, _++_, append-assoc, append-nil}
 use mathlib.Core.Logic.{_≢_}
 use native.Mathlib.Omega.{arith}
 use native.Mathlib.Numerals.{add-one}
 use lib.Dec.{eqb}
-use lib.ListN.{length, take, getD, set}
-use lib.Seq.{length-take-le, take-all, take-suc-set, getD-take}
+use lib.ListN.{length, take, drop, getD, set, length-append}
+use lib.Seq.{length-take-le, take-all, take-at, take-suc-set, getD-take}
+use borrow.Author.Tests.{eqb-true, eqb-false, eq-eqb, ne-eqb, lt-ltb, le-ltb}
 use Rattle.model.specs.Step.{step}
 use Rattle.texts.specs.Text.{written, Put}
-use Rattle.texts.proofs.Writing.{as-text}
+use Rattle.texts.proofs.Writing.{as-text, written-is}
 use Rattle.trace.specs.Trace.{countAt, takes, line, refusedLine}
 use Rattle.stream.specs.declared.Reader.{Reader}
 use Rattle.stream.specs.declared.Taken.{Taken}
-use Rattle.stream.specs.Stream.{Standing, Turn, at, behind, over, fault, waits, onward, counts, runs, gathers, turn}
-use Rattle.stream.specs.Terms.{standingBy, Ready, Took, Counts}
-use Rattle.stream.proofs.Ready.{whole-count}
-use Rattle.stream.proofs.Turns.{turn-over, turn-behind, turn-counts, turn-gathers, counts-low, counts-many, counts-some, gathers-fault, gathers-more, gathers-last}
+use Rattle.stream.specs.Stream.{Standing, Turn, at, behind, over, ended, onward, counts, turn, fed, printed}
+use Rattle.stream.specs.Terms.{standingBy, Ready, Took, TookSome, Counts, atOnce}
+use Rattle.stream.proofs.Ready.{whole-count, line-short}
+use Rattle.stream.proofs.Turns.{turn-behind, turn-counts, counts-low, counts-many, counts-some}
+use Rattle.stream.proofs.Cuts.{fed-over, printed-over}
+use Rattle.stream.proofs.Chunks.{not-yet, completed, misplaced}
 
--- the same turn by another name
-as-turn : {t u : Turn} {l e s x : List ℕ} {p : Taken} → u ≡ t → Took t l e s x p → Took u l e s x p
-as-turn h w =
-    record { next = w .next ∙ sym (ap (λ (t : Turn). t .next) h); few = w .few; text = as-text (sym (ap (λ (t : Turn). t .text) h)) (w .text) }
+-- the same standing and text by other names
+took-as : {σ τ : Standing} {t u l e s x : List ℕ} {p : Taken} → τ ≡ σ → u ≡ t → Took σ t l e s x p → Took τ u l e s x p
+took-as h k w =
+    record { stands = w .stands ∙ sym h; few = w .few; short = omega (arith, w .short, ap length k); put = as-text (sym k) (w .put) }
+
+took-turn : {t u : Turn} {l e s x : List ℕ} {p : Taken} → u ≡ t → Took (t .next) (t .text) l e s x p → Took (u .next) (u .text) l e s x p
+took-turn h = took-as (ap (λ (t : Turn). t .next) h) (ap (λ (t : Turn). t .text) h)
 
 -- no text
-pub no-text : (l : List ℕ) → Put l 0 [] l 0
+no-text : (l : List ℕ) {n : ℕ} → n ≡ 0 → Put l 0 [] l n
 unfolding written
-no-text l = record { bytes = refl; behind = refl }
-
-no-text-by : (l : List ℕ) {n : ℕ} → n ≡ 0 → Put l 0 [] l n
-no-text-by l h = record { bytes = no-text l .bytes; behind = h ∙ no-text l .behind }
+no-text l h = record { bytes = refl; behind = h }
 
 abbrev pub overReader : Reader
 overReader = record { section = over; left = 0; steps = 0; seen = 0 }
 
-abbrev pub waiting : Reader → Reader
-waiting r = record { section = r .section; left = r .left; steps = r .steps; seen = r .seen + 1 }
+abbrev pub waiting : Reader → ℕ → Reader
+waiting r n = record { section = r .section; left = r .left; steps = r .steps; seen = n }
 
 abbrev pub onwardReader : ℕ → ℕ → ℕ → Reader
 onwardReader k l n = record { section = cond (eqb l 0) (k + 1) k; left = l; steps = n; seen = 0 }
 
-pub faulted : (σ : Standing) {l e x : List ℕ} {p : Taken} → p .reader ≡ overReader → Put l 0 refusedLine x (p .length) → Took (fault σ) l e (σ .image) x p
-faulted σ {e = e} h t =
-    record { next = ap (λ (r : Reader). standingBy r e (σ .image)) h; few = omega (arith, ap (λ (r : Reader). r .seen) h); text = t }
+faulted : (s : List ℕ) {l e x : List ℕ} {p : Taken} → p .reader ≡ overReader → Put l 0 refusedLine x (p .length) → Took (ended s) refusedLine l e s x p
+faulted s {e = e} h t =
+    record { stands = ap (λ (r : Reader). standingBy r e s) h; few = omega (arith, ap (λ (r : Reader). r .seen) h); short = omega arith; put = t }
+
+waited : (r : Reader) (n : ℕ) (e l s : List ℕ) {p : Taken} → n ≤ 15 → p .reader ≡ waiting r n → p .length ≡ 0 → Took (standingBy (waiting r n) e s) [] l e s l p
+waited r n e l s h w z =
+    record { stands = ap (λ (q : Reader). standingBy q e s) w; few = omega (arith, ap (λ (q : Reader). q .seen) w); short = omega arith; put = no-text l z }
+
+-- ---- how many at once
+
+module _ (l m n : ℕ) where
+  pub one-at-once : l ≡ 0 → 1 ≡ atOnce l m n
+  one-at-once h = rw (eq-eqb l 0 h)
+
+  pub all-at-once : l ≢ 0 → n < 16 - m → n ≡ atOnce l m n
+  all-at-once h k = rw (ne-eqb l 0 h, lt-ltb n (16 - m) k)
+
+  pub lack-at-once : l ≢ 0 → 16 - m ≤ n → 16 - m ≡ atOnce l m n
+  lack-at-once h k = rw (ne-eqb l 0 h, le-ltb n (16 - m) k)
+
+-- ---- the bytes of a count
 
 module _ (r : Reader) (e : List ℕ) (sixteen : length e ≡ 16) (l : List ℕ) where
   abbrev g : List ℕ
@@ -56,14 +77,11 @@ module _ (r : Reader) (e : List ℕ) (sixteen : length e ≡ 16) (l : List ℕ) 
   g-length : r .seen ≤ 15 → length g ≡ r .seen + 1
   g-length h = length-take-le (r .seen + 1) e (omega arith)
 
-  waited : (s : List ℕ) {p : Taken} → r .seen < 15 → p .reader ≡ waiting r → p .length ≡ 0 → Took (waits (σ s) g) l e s l p
-  waited s h w z =
-      record { next = ap (λ (q : Reader). standingBy q e s) w; few = omega (arith, ap (λ (q : Reader). q .seen) w); text = no-text-by l z }
-
-  -- ---- the bytes of a count
-
-  pub low-byte : {p : Taken} → r .seen ≡ 0 → p .reader ≡ waiting r → p .length ≡ 0 → Counts r e l l p
-  low-byte h w z s = as-turn (counts-low (σ s) g (omega (arith, g-length (omega arith)))) (waited s (omega arith) w z)
+  pub low-byte : {p : Taken} → r .seen ≡ 0 → p .reader ≡ waiting r 1 → p .length ≡ 0 → Counts r e l l p
+  low-byte h w z s =
+      let n : r .seen + 1 ≡ 1 = omega arith in
+      took-turn (counts-low (σ s) g (omega (arith, g-length (omega arith))))
+      (took-as (ap (λ (k : ℕ). standingBy (waiting r k) e s) n) refl (waited r 1 e l s (omega arith) w z))
 
   module _ (one : r .seen ≤ 1) (more : r .seen ≢ 0) {n : ℕ} (h : n ≡ getD e 0 0 + 256 * getD e 1 0) where
     two : 2 ≤ length g
@@ -77,81 +95,121 @@ module _ (r : Reader) (e : List ℕ) (sixteen : length e ≡ 16) (l : List ℕ) 
         ∙ sym h
 
     pub high-byte-fault : {x : List ℕ} {p : Taken} → 1000 < n → p .reader ≡ overReader → Put l 0 refusedLine x (p .length) → Counts r e l x p
-    high-byte-fault m w t s = as-turn (counts-many (σ s) g two (omega (arith, the-count))) (faulted (σ s) w t)
+    high-byte-fault m w t s = took-turn (counts-many (σ s) g two (omega (arith, the-count))) (faulted s w t)
 
     pub high-byte : {q : Reader} → n ≤ 1000 → q ≡ onwardReader (r .section) n (r .steps) → Counts r e l l (record { reader = q; length = 0 })
-    high-byte {q} m w s =
-        as-turn (counts-some (σ s) g two (omega (arith, the-count)))
+    high-byte m w s =
+        took-turn (counts-some (σ s) g two (omega (arith, the-count)))
         (record {
-          next =
+          stands =
               ap (λ (q : Reader). standingBy q e s) w
               ∙ ap (λ (k : ℕ). onward (r .section) k (r .steps) s) (sym the-count);
           few = omega (arith, ap (λ (q : Reader). q .seen) w);
-          text = no-text l;
+          short = omega arith;
+          put = no-text l refl;
         })
 
-  -- ---- the bytes of an event
+-- a list of one
+pub alone : (b : List ℕ) → length b ≡ 1 → b ≡ getD b 0 0 ∷ []
+alone [] h = absurd (omega arith)
+alone (x ∷ []) h = refl
+alone (x ∷ y ∷ b) h = absurd (omega arith)
 
-  module _ (s : List ℕ) (few : r .seen ≤ 15) {t : Bool} (h : t ≡ takes (r .section) (getD e 0 0)) where
-    first : takes (r .section) (getD g 0 0) ≡ t
-    first = ap (takes (r .section)) (getD-take (r .seen + 1) e 0 0 (omega arith)) ∙ sym h
+-- ---- where a stream can stand
 
-    pub misplaced-byte : {x : List ℕ} {p : Taken} → t ≡ false → p .reader ≡ overReader → Put l 0 refusedLine x (p .length) → Took (gathers (σ s) g) l e s x p
-    misplaced-byte f w u = as-turn (gathers-fault (σ s) g (first ∙ f)) (faulted (σ s) w u)
-
-    pub event-byte : {p : Taken} → t ≡ true → r .seen < 15 → p .reader ≡ waiting r → p .length ≡ 0 → Took (gathers (σ s) g) l e s l p
-    event-byte f m w z = as-turn (gathers-more (σ s) g (first ∙ f) (omega (arith, g-length few))) (waited s m w z)
-
-    pub last-byte : {u x : List ℕ} {q : Reader} {n k : ℕ} → t ≡ true → 15 ≤ r .seen → n ≡ r .steps + 1 → Put l 0 (line n (step s e)) x k → u ≡ step s e .image
-        → q ≡ onwardReader (r .section) (r .left - 1) (r .steps + 1) → Took (gathers (σ s) g) l e u x (record { reader = q; length = k })
-    unfolding runs
-    last-byte {u} f m z w v c =
-        let whole : g ≡ e = take-all (r .seen + 1) e (omega arith) in
-        as-turn (gathers-last (σ s) g (first ∙ f) (omega (arith, g-length few)) ∙ ap (runs (σ s)) whole)
-        (record {
-          next =
-              ap (λ (q : Reader). standingBy q e u) c
-              ∙ ap (onward (r .section) (r .left - 1) (r .steps + 1)) v;
-          few = omega (arith, ap (λ (q : Reader). q .seen) c);
-          text = as-text (ap (λ (n : ℕ). line n (step s e)) z) w;
-        })
-
--- ---- the turn
-
-module _ (r : Reader) (e s : List ℕ) (x : ℕ) (d : Ready (standingBy r e s)) (few : r .seen ≤ 15) (sixteen : length e ≡ 16) (l : List ℕ) where
+module _ (r : Reader) (e s : List ℕ) (d : Ready (standingBy r e s)) (sixteen : length e ≡ 16) where
   abbrev τ : Standing
   τ = standingBy r e s
 
-  pub over-turn : r .section ≡ over → Took (turn τ x) l e s l (record { reader = r; length = 0 })
-  over-turn h = as-turn (turn-over τ x h) (record { next = refl; few = few; text = no-text l })
+  module _ (few : r .seen ≤ 15) where
+    seen-is : length (take (r .seen) e) ≡ r .seen
+    seen-is = length-take-le (r .seen) e (omega arith)
 
-  pub behind-turn : {y : List ℕ} {p : Taken} → r .section ≡ behind → p .reader ≡ overReader → Put l 0 refusedLine y (p .length) → Took (turn τ x) l e s y p
-  behind-turn h w t = as-turn (turn-behind τ x h) (faulted τ w t)
+    -- one byte
+    module _ (x : ℕ) {b : List ℕ} (only : b ≡ x ∷ []) (l : List ℕ) where
+      one-byte : {y u : List ℕ} {f : List ℕ} {p : Taken} → Took (turn τ x .next) (turn τ x .text) l f u y p → TookSome τ b l f u y p
+      unfolding fed printed
+      one-byte w =
+          took-as (ap (fed τ) only) (ap (printed τ) only ∙ append-nil (turn τ x .text)) w
 
-  -- what is gathered with the byte
-  stored : take (r .seen) e ++ (x ∷ []) ≡ take (r .seen + 1) (set e (r .seen) x)
-  stored = sym (ap (λ (k : ℕ). take k (set e (r .seen) x)) (add-one (r .seen)) ∙ take-suc-set e (r .seen) x (omega arith))
+      pub behind-byte : {y : List ℕ} {p : Taken} → r .section ≡ behind → p .reader ≡ overReader → Put l 0 refusedLine y (p .length) → TookSome τ b l e s y p
+      behind-byte h w t = one-byte (took-turn (turn-behind τ x h) (faulted s w t))
 
-  module _ (not-over : r .section ≢ over) (not-behind : r .section ≢ behind) where
-    pub inside : r .section ≤ 3
-    inside = omega (arith, d .last)
+      -- what is gathered with the byte
+      stored : take (r .seen) e ++ (x ∷ []) ≡ take (r .seen + 1) (set e (r .seen) x)
+      stored = sym (ap (λ (k : ℕ). take k (set e (r .seen) x)) (add-one (r .seen)) ∙ take-suc-set e (r .seen) x (omega arith))
 
-    pub one-at-most : r .left ≡ 0 → r .seen ≤ 1
-    one-at-most z =
-        let w = whole-count (r .section) (r .left) not-behind z in
-        let n = length-take-le (r .seen) e (omega arith) in
-        omega (arith, d .short, w, n)
+      pub count-byte : {y : List ℕ} {p : Taken} → r .section ≤ 3 → r .left ≡ 0 → Counts r (set e (r .seen) x) l y p → TookSome τ b l (set e (r .seen) x) s y p
+      unfolding counts
+      count-byte h z c = one-byte (took-turn (turn-counts τ x h z ∙ ap (counts τ) stored) (c s))
 
-    pub counting-turn : {y : List ℕ} {p : Taken} → r .left ≡ 0 → Counts r (set e (r .seen) x) l y p → Took (turn τ x) l (set e (r .seen) x) s y p
-    unfolding counts
-    counting-turn {y} {p} z c =
-        as-turn (turn-counts τ x inside z ∙ ap (counts τ) stored) (c s)
+    pub one-at-most : r .section ≢ behind → r .left ≡ 0 → r .seen ≤ 1
+    one-at-most h z =
+        omega (arith, d .short, whole-count (r .section) (r .left) h z, seen-is)
 
-    pub running-turn : {u y : List ℕ} {p : Taken} → r .left ≢ 0
-        → Took (gathers (at (r .section) (r .left) (r .steps) [] s) (take (r .seen + 1) (set e (r .seen) x))) l (set e (r .seen) x) u y p
-        → Took (turn τ x) l (set e (r .seen) x) u y p
-    unfolding gathers runs
-    running-turn z c = as-turn (turn-gathers τ x inside (omega arith) ∙ ap (gathers τ) stored) c
+  -- bytes that come too late
+  pub over-bytes : (b l : List ℕ) {p : Taken} → r .section ≡ over → p .reader ≡ r → p .length ≡ 0 → r .seen ≤ 15 → TookSome τ b l e s l p
+  over-bytes b l h w z f =
+      took-as (fed-over τ h b) (printed-over τ h b)
+      (record { stands = ap (λ (q : Reader). standingBy q e s) w; few = omega (arith, f, ap (λ (q : Reader). q .seen) w); short = omega arith; put = no-text l z })
 
-    pub fewer : r .left ≢ 0 → r .steps < 3000
-    fewer z = let h = d .running (omega arith) in omega (arith, h .0, h .1)
+  -- behind the third section no event is left
+  pub none-left : r .section ≡ behind → r .left ≡ 0
+  none-left h = to (eqb (r .left) 0) refl
+    where
+      to : (a : Bool) → eqb (r .left) 0 ≡ a → r .left ≡ 0
+      to true e = eqb-true (r .left) 0 e
+      to false e = let n = eqb-false (r .left) 0 e in absurd (omega (arith, d .running (omega arith) .0))
+
+  pub inside : r .section ≢ over → r .section ≢ behind → r .section ≤ 3
+  inside h k = omega (arith, d .last)
+
+  pub steps-below : 0 < r .left → r .steps < 3000
+  steps-below h = let z = d .running h in omega (arith, z .0, z .1)
+
+  -- ---- bytes of an event
+
+  module _ (in-section : r .section ≤ 3) (some : 0 < r .left) (b : List ℕ) (here : 0 < length b) (room : r .seen + length b ≤ 16) (l : List ℕ)
+      {f : List ℕ} {n : ℕ} (p : Put e (r .seen) b f n) where
+    abbrev came : List ℕ
+    came = take (r .seen) e
+
+    came-length : length came ≡ r .seen
+    came-length = length-take-le (r .seen) e (omega arith)
+
+    -- what is gathered with them
+    all-is : take n f ≡ came ++ b
+    all-is =
+        let m : length (came ++ b) ≡ n = omega (arith, length-append came b, came-length, p .behind) in
+        ap (take n) (p .bytes ∙ written-is b e (r .seen) (omega arith) ∙ sym (append-assoc came b (drop (r .seen + length b) e)))
+        ∙ take-at (came ++ b) (drop (r .seen + length b) e) n m
+
+    first-is : takes (r .section) (getD (came ++ b) 0 0) ≡ takes (r .section) (getD f 0 0)
+    first-is = ap (takes (r .section)) (ap (λ (x : List ℕ). getD x 0 0) (sym all-is) ∙ getD-take n f 0 0 (omega (arith, p .behind)))
+
+    module _ {t : Bool} (h : t ≡ takes (r .section) (getD f 0 0)) where
+      first : {u : Bool} → t ≡ u → takes (r .section) (getD (came ++ b) 0 0) ≡ u
+      first k = first-is ∙ sym h ∙ k
+
+      pub fault-there : {x : List ℕ} {q : Taken} → t ≡ false → q .reader ≡ overReader → Put l 0 refusedLine x (q .length) → TookSome τ b l f s x q
+      fault-there k w z =
+          let m = misplaced (r .section) in-section (r .left) (r .steps) s some came b here (d .placed some) (first k) in
+          took-as (m .0) (m .1) (faulted s w z)
+
+      pub more-there : {q : Taken} → t ≡ true → n < 16 → q .reader ≡ waiting r n → q .length ≡ 0 → TookSome τ b l f s l q
+      more-there k z w y =
+          let m = not-yet (r .section) in-section (r .left) (r .steps) s some came b here (omega (arith, came-length, p .behind)) (first k) in
+          took-as (m .0 ∙ ap (λ (x : List ℕ). at (r .section) (r .left) (r .steps) x s) (sym all-is)) (m .1) (waited r n f l s (omega arith) w y)
+
+      pub whole-there : {u x : List ℕ} {q : Reader} {i j : ℕ} → t ≡ true → 16 ≤ n → length f ≡ 16 → i ≡ r .steps + 1 → Put l 0 (line i (step s f)) x j
+          → u ≡ step s f .image → q ≡ onwardReader (r .section) (r .left - 1) (r .steps + 1) → TookSome τ b l f u x (record { reader = q; length = j })
+      whole-there {u} k z g y w v c =
+          let e : came ++ b ≡ f = sym all-is ∙ take-all n f (omega arith) in
+          let m = completed (r .section) in-section (r .left) (r .steps) s some came b here (omega (arith, came-length, p .behind)) (first k) in
+          took-as (m .0 ∙ ap (λ (x : List ℕ). onward (r .section) (r .left - 1) (r .steps + 1) (step s x .image)) e) (m .1 ∙ ap (λ (x : List ℕ). line (r .steps + 1) (step s x)) e)
+          (record {
+            stands = ap (λ (q : Reader). standingBy q f u) c ∙ ap (onward (r .section) (r .left - 1) (r .steps + 1)) v;
+            few = omega (arith, ap (λ (q : Reader). q .seen) c);
+            short = omega (arith, line-short τ d some f);
+            put = as-text (ap (λ (i : ℕ). line i (step s f)) y) w;
+          })

@@ -1,16 +1,18 @@
--- The stream: one byte, then any bytes; where it can stand, and its state bytes; the code; the calls; what is proved of a file and of a stream.
+-- The stream: one byte, then any bytes; where it can stand, and its state bytes; what it tells of a trace and of any other file; the code, and the
+-- calls; where the fault lies; which states are taken; however a trace is cut.
 pub mod Turns
 pub mod Cuts
 pub mod Ready
 pub mod State
+pub mod Story
+pub mod Walk
+pub mod Chunks
 pub mod Bytewise
 pub mod Loops
 pub mod Kept
 pub mod Judging
 pub mod Parts
 pub mod Leaving
-pub mod Story
-pub mod Walk
 pub mod Came
 pub mod Fitting
 pub mod Viable

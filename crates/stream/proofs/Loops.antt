@@ -1,24 +1,25 @@
 -- The code of the loops: over the bytes of a part, and over those behind what is gathered.
-use Prim.Native.Nat.{ℕ, _+_, _<_, _≤_}
-use mathlib.Core.Path.{_≡_, refl, sym, _∙_, ap}
-use mathlib.Core.Bool.{true, false}
+use Prim.Native.Nat.{ℕ, _+_, _-_, _<_, _≤_}
+use mathlib.Core.Path.{_≡_, refl, sym, _∙_, ap, ap₂}
+use mathlib.Core.Bool.{Bool, true, false, cond}
 use mathlib.Core.List.{List, [], _∷_, _++_}
 use mathlib.Core.Logic.{_≢_}
 use native.Mathlib.Omega.{arith}
 use native.Mathlib.Numerals.{add-one}
-use lib.ListN.{length, take, drop, getD, length-append, drop-of-length-le}
-use lib.Seq.{drop-cons, drop-length}
-use borrow.Author.Tests.{eq-eqb, ne-eqb}
+use lib.Dec.{eqb, ltb}
+use lib.ListN.{length, take, drop, getD, length-append, length-drop, take-append-drop, drop-of-length-le}
+use lib.Seq.{length-take-le, drop-cons, drop-drop, drop-length}
+use borrow.Author.Tests.{eq-eqb, ne-eqb, eqb-false, ltb-true, ltb-false}
 use Rattle.words.proofs.Bytes.{Bytes}
 use Rattle.texts.specs.Text.{written}
 use Rattle.texts.proofs.Writing.{written-append, front-of}
 use Rattle.stream.specs.declared.Reader.{Reader}
 use Rattle.stream.specs.declared.Taken.{Taken}
-use Rattle.stream.specs.Stream.{Standing, Turn, turn, fed, printed}
+use Rattle.stream.specs.Stream.{Standing, fed, printed}
 use Rattle.stream.specs.Calls.{allZero}
-use Rattle.stream.specs.Terms.{standingBy, Ready, Took, Fed, Added}
-use Rattle.stream.proofs.Ready.{turn-ready, text-short, printed-most}
-use Rattle.stream.proofs.Turns.{kind}
+use Rattle.stream.specs.Terms.{standingBy, Ready, TookSome, atOnce, Fed, Added}
+use Rattle.stream.proofs.Cuts.{fed-append, printed-append}
+use Rattle.stream.proofs.Ready.{fed-ready, printed-most}
 
 -- ---- the bytes of a part
 
@@ -66,77 +67,86 @@ module _ {σ : Standing} {part o e s out line : List ℕ} {r : Reader} {n i : �
         text = λ m. ap (λ (w : List ℕ). written out n (printed (standingBy r e s) w)) (sym none) ∙ g .text m;
       }
 
-  module _ (l : i < length part) where
-    abbrev x : ℕ
-    x = getD part i 0
-
+  module _ (l : i < length part) {j : ℕ} (c : j ≡ atOnce (r .left) (r .seen) (length part - i)) where
     abbrev τ : Standing
     τ = standingBy r e s
 
-    abbrev t : Turn
-    t = turn τ x
+    -- as many as are there at most, and as the event lacks
+    pub some-there : (1 ≤ j) × (i + j ≤ length part) × (r .seen + j ≤ 16) × (r .left ≡ 0 → j ≡ 1)
+    some-there = to (eqb (r .left) 0) refl (ltb (length part - i) (16 - r .seen)) refl c
+      where
+        to : (a : Bool) → eqb (r .left) 0 ≡ a → (b : Bool) → ltb (length part - i) (16 - r .seen) ≡ b
+            → j ≡ cond a 1 (cond b (length part - i) (16 - r .seen)) → (1 ≤ j) × (i + j ≤ length part) × (r .seen + j ≤ 16) × (r .left ≡ 0 → j ≡ 1)
+        to true x b y z = (omega arith, omega arith, omega (arith, g .few), λ n. z)
+        to false x true y z =
+            let m = ltb-true (length part - i) (16 - r .seen) y in
+            let n = eqb-false (r .left) 0 x in
+            (omega arith, omega arith, omega arith, λ o. absurd (n o))
+        to false x false y z =
+            let m = ltb-false (length part - i) (16 - r .seen) y in
+            let n = eqb-false (r .left) 0 x in
+            (omega (arith, g .few), omega (arith, g .few), omega (arith, g .few), λ o. absurd (n o))
 
-    abbrev later : List ℕ
-    later = printed (t .next) (drop (i + 1) part)
+    module _ {b : List ℕ} (h : b ≡ take j (drop i part)) where
+      pub chunk-length : length b ≡ j
+      chunk-length = ap length h ∙ length-take-le j (drop i part) (omega (arith, some-there .1, length-drop i part))
 
-    here : drop i part ≡ x ∷ drop (i + 1) part
-    here = drop-cons part i 0 l ∙ ap (λ (k : ℕ). x ∷ drop k part) (sym (add-one i))
+      abbrev later : List ℕ
+      later = printed (fed τ b) (drop (i + j) part)
 
-    this-text : printed τ (drop i part) ≡ t .text ++ later
-    unfolding printed
-    this-text = ap (printed τ) here
+      here : drop i part ≡ b ++ drop (i + j) part
+      here = sym (take-append-drop j (drop i part)) ∙ ap₂ (λ (x y : List ℕ). x ++ y) (sym h) (drop-drop j i part)
 
-    this-rest : fed τ (drop i part) ≡ fed (t .next) (drop (i + 1) part)
-    unfolding fed
-    this-rest = ap (fed τ) here
+      this-text : printed τ (drop i part) ≡ printed τ b ++ later
+      this-text = ap (printed τ) here ∙ printed-append τ b (drop (i + j) part)
 
-    in-all : n + (length (t .text) + length later) ≡ length (printed σ part)
-    in-all = omega (arith, g .counted, ap length this-text, length-append (t .text) later)
+      this-rest : fed τ (drop i part) ≡ fed (fed τ b) (drop (i + j) part)
+      this-rest = ap (fed τ) here ∙ fed-append τ b (drop (i + j) part)
 
-    -- the line that the turn left, up to its length
-    module _ {d u line' : List ℕ} {p : Taken} (w : Took t line d u line' p) where
-      length-is : p .length ≡ length (t .text)
-      length-is = omega (arith, w .text .behind)
+      in-all : n + (length (printed τ b) + length later) ≡ length (printed σ part)
+      in-all = omega (arith, g .counted, ap length this-text, length-append (printed τ b) later)
 
-      short : length (t .text) ≤ 16
-      short = text-short τ (g .ready) x (kind τ x (g .ready .last))
+      -- the line that they left, up to its length
+      module _ {d u line' : List ℕ} {p : Taken} (small : Bytes b) (w : TookSome τ b line d u line' p) where
+        length-is : p .length ≡ length (printed τ b)
+        length-is = omega (arith, w .put .behind)
 
-      pub in-line : p .length ≤ 16
-      in-line = omega (arith, length-is, short)
+        pub in-line : p .length ≤ 16
+        in-line = omega (arith, length-is, w .short)
 
-      pub below : n ≤ 65536
-      below = omega (arith, in-all, g .bound)
+        pub below : n ≤ 65536
+        below = omega (arith, in-all, g .bound)
 
-      line-is : take (p .length) line' ≡ t .text
-      line-is = front-of (omega (arith, short, g .line-length)) (w .text)
+        line-is : take (p .length) line' ≡ printed τ b
+        line-is = front-of (omega (arith, w .short, g .line-length)) (w .put)
 
-      pub taken : x < 256 → {out' : List ℕ} {k : ℕ} → Added out n (take (p .length) line') out' k → length d ≡ length e → length u ≡ length s
-          → length out' ≡ length out → length line' ≡ length line → Going σ part o d u out' line' (p .reader) k (i + 1)
-      taken small {out'} {k} a ed us oo ll =
-          let m : length (take (p .length) line') ≡ length (t .text) = ap length line-is in
-          record {
-            rest = ap (λ (τ : Standing). fed τ (drop (i + 1) part)) (w .next) ∙ sym this-rest ∙ g .rest;
-            counted =
-                ap (λ (τ : Standing). k + length (printed τ (drop (i + 1) part))) (w .next)
-                ∙ omega (arith, a .counted, m, in-all);
-            text = λ f.
-                let b = a .bytes (omega (arith, m, in-all, g .out-length)) in
-                let q : k ≡ n + length (t .text) = omega (arith, a .counted, m) in
-                ap (λ (τ : Standing). written out' k (printed τ (drop (i + 1) part))) (w .next)
-                ∙ ap (λ (y : List ℕ). written y k later) (b ∙ ap (written out n) line-is)
-                ∙ ap (λ (j : ℕ). written (written out n (t .text)) j later) q
-                ∙ written-append out n (t .text) later
-                ∙ ap (written out n) (sym this-text)
-                ∙ g .text f;
-            bound = g .bound;
-            ready = rw (w .next) (turn-ready τ (g .ready) x small);
-            few = w .few;
-            sixteen = ed ∙ g .sixteen;
-            image-length = us ∙ g .image-length;
-            out-length = oo ∙ g .out-length;
-            line-length = ll ∙ g .line-length;
-            most = omega arith;
-          }
+        pub taken : {out' : List ℕ} {k : ℕ} → Added out n (take (p .length) line') out' k → length d ≡ length e → length u ≡ length s
+            → length out' ≡ length out → length line' ≡ length line → Going σ part o d u out' line' (p .reader) k (i + j)
+        taken {out'} {k} a ed us oo ll =
+            let m : length (take (p .length) line') ≡ length (printed τ b) = ap length line-is in
+            record {
+              rest = ap (λ (τ : Standing). fed τ (drop (i + j) part)) (w .stands) ∙ sym this-rest ∙ g .rest;
+              counted =
+                  ap (λ (τ : Standing). k + length (printed τ (drop (i + j) part))) (w .stands)
+                  ∙ omega (arith, a .counted, m, in-all);
+              text = λ f.
+                  let c = a .bytes (omega (arith, m, in-all, g .out-length)) in
+                  let q : k ≡ n + length (printed τ b) = omega (arith, a .counted, m) in
+                  ap (λ (τ : Standing). written out' k (printed τ (drop (i + j) part))) (w .stands)
+                  ∙ ap (λ (y : List ℕ). written y k later) (c ∙ ap (written out n) line-is)
+                  ∙ ap (λ (j : ℕ). written (written out n (printed τ b)) j later) q
+                  ∙ written-append out n (printed τ b) later
+                  ∙ ap (written out n) (sym this-text)
+                  ∙ g .text f;
+              bound = g .bound;
+              ready = rw (w .stands) (fed-ready τ (g .ready) b small);
+              few = w .few;
+              sixteen = ed ∙ g .sixteen;
+              image-length = us ∙ g .image-length;
+              out-length = oo ∙ g .out-length;
+              line-length = ll ∙ g .line-length;
+              most = some-there .1;
+            }
 
 -- ---- zeros
 

@@ -14,11 +14,11 @@ use Rattle.stream.specs.Terms.{standingBy, readerOf, Ready, Fed, Taking}
 use Rattle.stream.proofs.Kept.{copied}
 
 module _ (s t : List ℕ) (l : length t ≡ 32) {r : Reader} {o e : List ℕ} {n : ℕ} (h : r ≡ readerOf t) (z : length o ≡ 16)
-    (p : Put o 0 (take (length t - 16) (drop 16 t)) e n) where
+    (p : Put o 0 (take 16 (drop 16 t)) e n) where
   -- the bytes behind the four words, copied
   event-is : e ≡ drop 16 t
   event-is =
-      let a : take (length t - 16) (drop 16 t) ≡ drop 16 t = take-all (length t - 16) (drop 16 t) (omega (arith, length-drop 16 t)) in
+      let a : take 16 (drop 16 t) ≡ drop 16 t = take-all 16 (drop 16 t) (omega (arith, length-drop 16 t)) in
       copied p (ap length a ∙ omega (arith, length-drop 16 t)) ∙ a
 
   pub event-length : length e ≡ 16

@@ -178,21 +178,9 @@ steps-few σ d = to (eqb (σ .left) 0) refl (eqb (σ .section) over) refl
         let h = d .running (omega arith) in
         omega (arith, h .0, h .1)
 
-module _ (σ : Standing) (d : Ready σ) (x : ℕ) where
+module _ (σ : Standing) (d : Ready σ) where
   pub line-short : 0 < σ .left → (e : List ℕ) → length (line (σ .steps + 1) (step (σ .image) e)) ≤ 13
   line-short z e = line-most (σ .steps + 1) (step (σ .image) e) (let r = d .running z in omega (arith, r .0, r .1)) (step-small (σ .image) e)
-
-  -- the text of a turn
-  pub text-short : {t : Turn} → Kind σ x t → length (t .text) ≤ 16
-  unfolding runs
-  text-short (still h) = omega arith
-  text-short (surplus h) = omega arith
-  text-short (low h z l) = omega arith
-  text-short (many h z l m) = omega arith
-  text-short (counted h z l m) = omega arith
-  text-short (misplaced h z p) = omega arith
-  text-short (more h z p l) = omega arith
-  text-short (last h z p l) = let m = line-short z (with σ x) in omega arith
 
 -- in all: the lines of the events that can still come, and the refusal line
 abbrev Room : Standing → ℕ → Type 0
@@ -229,7 +217,7 @@ module _ (σ : Standing) (d : Ready σ) (x : ℕ) (l : List ℕ) where
   both (last h z p m) r f =
       let e = with σ x in
       let n = length-append (line (σ .steps + 1) (step (σ .image) e)) (printed (runs σ e .next) l) in
-      let k = line-short σ d x z e in
+      let k = line-short σ d z e in
       (omega (arith, n, k), omega (arith, n, k, length-with σ x))
 
 text-room : (σ : Standing) → Ready σ → (l : List ℕ) → Bytes l → Room σ (length (printed σ l)) × Fits σ l (length (printed σ l))

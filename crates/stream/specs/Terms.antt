@@ -1,16 +1,18 @@
 -- What the code of the stream relies on, and what its parts leave. No promise to C is said in these words.
 use Prim.Native.Nat.{ℕ, _+_, _-_, _*_, _<_, _≤_}
 use mathlib.Core.Path.{_≡_}
-use mathlib.Core.Bool.{true}
+use mathlib.Core.Bool.{true, cond}
 use mathlib.Core.List.{List, []}
+use lib.Dec.{eqb, ltb}
 use lib.ListN.{length, take, getD}
 use Rattle.words.specs.Word.{wordAt}
 use Rattle.words.specs.Bytes.{Bytes}
+use Rattle.events.specs.Parts.{eventBytes}
 use Rattle.texts.specs.Text.{written, Put}
 use Rattle.trace.specs.Trace.{takes}
 use Rattle.stream.specs.declared.Reader.{Reader}
 use Rattle.stream.specs.declared.Taken.{Taken}
-use Rattle.stream.specs.Stream.{Standing, Turn, at, behind, over, counts, fed, printed}
+use Rattle.stream.specs.Stream.{Standing, at, behind, over, counts, fed, printed}
 use Rattle.stream.specs.Calls.{stateOf, whole}
 
 -- The reader by value, the 16 bytes e in which it gathers, and the image s.
@@ -33,16 +35,25 @@ pub record Ready (σ : Standing) : Type 0 where
   pub placed : 0 < σ .left → 0 < length (σ .gathered) → takes (σ .section) (getD (σ .gathered) 0 0) ≡ true
   pub bytes : Bytes (σ .gathered)
 
--- What a turn leaves: the reader, the bytes in which it gathers, the image, and its text at the front of the line.
-pub record Took (t : Turn) (line event image exit : List ℕ) (p : Taken) : Type 0 where
-  pub next : standingBy (p .reader) event image ≡ t .next
+-- What bytes leave: the reader, the bytes in which it gathers, the image, and their text at the front of the line.
+pub record Took (next : Standing) (text line event image exit : List ℕ) (p : Taken) : Type 0 where
+  pub stands : standingBy (p .reader) event image ≡ next
   pub few : p .reader .seen ≤ 15
-  pub text : Put line 0 (t .text) exit (p .length)
+  pub short : length text ≤ 16
+  pub put : Put line 0 text exit (p .length)
+
+abbrev pub TookSome : Standing → List ℕ → List ℕ → List ℕ → List ℕ → List ℕ → Taken → Type 0
+TookSome σ bytes line event image exit p = Took (fed σ bytes) (printed σ bytes) line event image exit p
 
 -- What the bytes of a count leave, whatever the image is.
 abbrev pub Counts : Reader → List ℕ → List ℕ → List ℕ → Taken → Type 0
 Counts r event line exit p =
-    (s : List ℕ) → Took (counts (at (r .section) (r .left) (r .steps) [] s) (take (r .seen + 1) event)) line event s exit p
+    (s : List ℕ)
+    → let t = counts (at (r .section) (r .left) (r .steps) [] s) (take (r .seen + 1) event) in Took (t .next) (t .text) line event s exit p
+
+-- How many bytes are taken at once, of those that are there: as many as the event lacks; while no event is read, one.
+abbrev pub atOnce : ℕ → ℕ → ℕ → ℕ
+atOnce left seen there = cond (eqb left 0) 1 (cond (ltb there (eventBytes - seen)) there (eventBytes - seen))
 
 -- What a part leaves. Its text stands at the front of o where it fits; it is counted in any case.
 pub record Fed (σ : Standing) (part o event image exit : List ℕ) (p : Taken) : Type 0 where

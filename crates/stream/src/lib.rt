@@ -5,13 +5,13 @@ ghost use mathlib.Core.Bool.{true, cond};
 ghost use mathlib.Core.List.{[]};
 ghost use Prim.Native.Nat.{_+_, _<_, _≤_};
 ghost use lib.Dec.{eqb, leb};
-ghost use lib.ListN.{length, take, drop};
+ghost use lib.ListN.{length, drop};
 ghost use Rattle.texts.specs.Text.{Put};
 ghost use Rattle.registers.specs.Block.{imageBytes};
 ghost use Rattle.trace.specs.Trace.{header, refusedLine};
-ghost use Rattle.stream.specs.Stream.{at, behind, over, opened, gathers, turn as turnOf, printed, lastLine};
+ghost use Rattle.stream.specs.Stream.{at, behind, over, opened, printed, lastLine};
 ghost use Rattle.stream.specs.Calls.{stateBytes, stateOf, seen, standing, allZero, ready, against as againstOf, prints, fedCall, lastCall, Leaves, OpenCall, FeedCall, CloseCall};
-ghost use Rattle.stream.specs.Terms.{standingBy, readerOf, Ready, Took, Counts, Fed, Taking, Added};
+ghost use Rattle.stream.specs.Terms.{standingBy, readerOf, Ready, Counts, TookSome, atOnce, Fed, Taking, Added};
 use texts::put_text;
 use trace::run_event;
 use trace::text::put_ending;
@@ -38,7 +38,7 @@ pub struct Taken {
     pub length: usize,
 }
 
-// ---- one byte
+// ---- some bytes
 
 // Traces in parts: the fault prints the refusal line, and nothing is read any more.
 fn fault(line: &mut [u8]) -> Taken
@@ -70,17 +70,16 @@ fn onward(section: u32, left: u32, steps: u32) -> Reader
     }
 }
 
-// The same, with one byte more gathered.
-fn wait(r: Reader) -> Taken
-    requires { ⌜ r .seen ≤ 15 ⌝ }
-    ensures { λ t. ⌜ (t .reader ≡ record { section = r .section; left = r .left; steps = r .steps; seen = r .seen + 1 }) × (t .length ≡ 0) ⌝ }
+// The same, with so many bytes gathered.
+fn wait(r: Reader, seen: u32) -> Taken
+    ensures { λ t. ⌜ (t .reader ≡ record { section = r .section; left = r .left; steps = r .steps; seen = seen }) × (t .length ≡ 0) ⌝ }
 {
     Taken {
         reader: Reader {
             section: r.section,
             left: r.left,
             steps: r.steps,
-            seen: r.seen + 1,
+            seen,
         },
         length: 0,
     }
@@ -92,7 +91,7 @@ fn count(r: Reader, event: &[u8], line: &mut [u8]) -> Taken
     ensures { λ t. ⌜ Counts r (now (event .entry)) (now (line .entry)) (now (line .exit)) t ⌝ }
 {
     if r.seen == 0 {
-        return wait(r);
+        return wait(r, 1);
     }
     let n = words::byte_at(event, 0) + 256 * words::byte_at(event, 1);
     if n > 1000 {
@@ -104,16 +103,17 @@ fn count(r: Reader, event: &[u8], line: &mut [u8]) -> Taken
     }
 }
 
-// The bytes of an event, the last of which just came.
-fn gather(r: Reader, event: &[u8], image: &mut [u8], line: &mut [u8]) -> Taken
-    requires { ⌜ (r .section ≤ 3) × (1 ≤ r .left) × (r .steps < 3000) × (r .seen ≤ 15) × (length (now event) ≡ 16) × (length (now line) ≡ 16) ⌝ }
-    ensures { λ t. ⌜ Took (gathers (at (r .section) (r .left) (r .steps) [] (now (image .entry))) (take (r .seen + 1) (now (event .entry)))) (now (line .entry)) (now (event .entry)) (now (image .exit)) (now (line .exit)) t ⌝ }
+// Bytes of an event, as many as it lacks at most. Its first byte says whether it may stand here.
+fn gather(r: Reader, event: &mut [u8], image: &mut [u8], bytes: &[u8], line: &mut [u8]) -> Taken
+    requires { ⌜ Ready (standingBy r (now event) (now image)) × (r .section ≤ 3) × (1 ≤ r .left) × (1 ≤ length (now bytes)) × (r .seen + length (now bytes) ≤ 16) × (length (now event) ≡ 16) × (length (now line) ≡ 16) ⌝ }
+    ensures { λ t. ⌜ TookSome (standingBy r (now (event .entry)) (now (image .entry))) (now (bytes .entry)) (now (line .entry)) (now (event .exit)) (now (image .exit)) (now (line .exit)) t ⌝ }
 {
+    let seen = put_text(event, r.seen as usize, bytes);
     if !trace::takes(r.section as usize, event[0] as usize) {
         return fault(line);
     }
-    if r.seen < 15 {
-        return wait(r);
+    if seen < 16 {
+        return wait(r, seen as u32);
     }
     let length = run_event(image, event, line, 0, r.steps as u64 + 1);
     Taken {
@@ -122,25 +122,37 @@ fn gather(r: Reader, event: &[u8], image: &mut [u8], line: &mut [u8]) -> Taken
     }
 }
 
-// Traces in parts: one byte more. Behind the third section it is the fault; once it is over it does nothing.
-fn turn(r: Reader, event: &mut [u8], image: &mut [u8], x: u8, line: &mut [u8]) -> Taken
-    requires { ⌜ Ready (standingBy r (now event) (now image)) × (r .seen ≤ 15) × (length (now event) ≡ 16) × (length (now line) ≡ 16) ⌝ }
-    ensures { λ t. ⌜ Took (turnOf (standingBy r (now (event .entry)) (now (image .entry))) x) (now (line .entry)) (now (event .exit)) (now (image .exit)) (now (line .exit)) t ⌝ }
+// How many bytes are taken at once, of those that are there: what an event lacks, else one.
+fn at_once(r: Reader, there: usize) -> usize
+    requires { ⌜ r .seen ≤ 15 ⌝ }
+    ensures { λ n. ⌜ n ≡ atOnce (r .left) (r .seen) there ⌝ }
+{
+    if r.left == 0 {
+        return 1;
+    }
+    let lacks = 16 - r.seen as usize;
+    if there < lacks {
+        return there;
+    }
+    lacks
+}
+
+// So many bytes. Behind the third section one is the fault; once it is over it does nothing.
+fn take_some(r: Reader, event: &mut [u8], image: &mut [u8], bytes: &[u8], line: &mut [u8]) -> Taken
+    requires { ⌜ Ready (standingBy r (now event) (now image)) × (r .seen + length (now bytes) ≤ 16) × (1 ≤ length (now bytes)) × (r .left ≡ 0 → length (now bytes) ≡ 1) × (length (now event) ≡ 16) × (length (now line) ≡ 16) ⌝ }
+    ensures { λ t. ⌜ TookSome (standingBy r (now (event .entry)) (now (image .entry))) (now (bytes .entry)) (now (line .entry)) (now (event .exit)) (now (image .exit)) (now (line .exit)) t ⌝ }
 {
     if r.section == OVER {
-        return Taken {
-            reader: r,
-            length: 0,
-        };
+        return wait(r, r.seen);
     }
     if r.section == BEHIND {
         return fault(line);
     }
-    event[r.seen as usize] = x;
-    if r.left == 0 {
-        return count(r, event, line);
+    if r.left > 0 {
+        return gather(r, event, image, bytes, line);
     }
-    gather(r, event, image, line)
+    event[r.seen as usize] = bytes[0];
+    count(r, event, line)
 }
 
 // ---- a part
@@ -157,7 +169,7 @@ fn add(out: &mut [u8], at: usize, text: &[u8]) -> usize
     put_text(out, at, text)
 }
 
-// The bytes of a part, one after the other.
+// The bytes of a part, some after the others.
 fn take_bytes(r: Reader, event: &mut [u8], image: &mut [u8], part: &[u8], out: &mut [u8]) -> Taken
     requires { ⌜ Ready (standingBy r (now event) (now image)) × (r .seen ≤ 15) × (length (now event) ≡ 16) ⌝ }
     ensures { λ p. ⌜ Fed (standingBy r (now (event .entry)) (now (image .entry))) (now (part .entry)) (now (out .entry)) (now (event .exit)) (now (image .exit)) (now (out .exit)) p ⌝ }
@@ -167,11 +179,12 @@ fn take_bytes(r: Reader, event: &mut [u8], image: &mut [u8], part: &[u8], out: &
     let mut length: usize = 0;
     let mut i: usize = 0;
     while i < part.len() {
-        let t = turn(reader, event, image, part[i], &mut line);
+        let end = i + at_once(reader, part.len() - i);
+        let t = take_some(reader, event, image, &part[i..end], &mut line);
         let n = t.length;
         reader = t.reader;
         length = add(out, length, &line[..n]);
-        i += 1;
+        i = end;
     }
     Taken { reader, length }
 }
@@ -277,7 +290,7 @@ fn take_part(image: &mut [u8], state: &mut [u8], part: &[u8], out: &mut [u8]) ->
 {
     let r = reader_of(state);
     let mut event = [0u8; 16];
-    put_text(&mut event, 0, &state[16..]);
+    put_text(&mut event, 0, &state[16..32]);
     let p = take_bytes(r, &mut event, image, part, out);
     let next = p.reader;
     keep(state, next, &event);

@@ -1,6 +1,6 @@
-use Rattle.stream.proofs.Bytewise.{misplaced-byte, event-byte, last-byte}
+use Rattle.stream.proofs.Bytewise.{steps-below, fault-there, more-there, whole-there}
 use Prim.Native.Nat.{_+_}
-use mathlib.Core.Path.{refl}
+use mathlib.Core.Path.{refl, _∙_}
 use borrow.Author.Tests.{not-true, not-false}
 use Rattle.model.specs.Step.{step}
 use Rattle.trace.proofs.Answers.{step-small}
@@ -10,15 +10,21 @@ use borrow.Author.Needs.{needs}
 use Rattle.stream.proofs.gather.Statement.{statement}
 use Rattle.stream.proofs.gather.Tie as tie
 
+cast-put-text : tie.Need-cast-put-text
+cast-put-text c = search needs
+
+put-text-requires : tie.Need-put-text-requires
+put-text-requires c κs = search needs
+
 cast-takes : tie.Need-cast-takes
 cast-takes c = search needs
 
-shared-slice-read-takes : tie.Need-shared-slice-read-takes
-shared-slice-read-takes c = search needs
+slice-read-takes : tie.Need-slice-read-takes
+slice-read-takes c = search needs
 
 cast-takes-2 : tie.Need-cast-takes-2
 cast-takes-2 c =
-    record { fits = omega (arith, c .before .before .before .before .shared-slice-known .given 0) }
+    record { fits = omega (arith, c .slice-known5 .given 0) }
 
 takes-requires : tie.Need-takes-requires
 takes-requires c κs = search needs
@@ -29,18 +35,29 @@ fault-requires c κs = search needs
 same-length : tie.Need-same-length
 same-length c = search needs
 
+same-length-2 : tie.Need-same-length-2
+same-length-2 c = search needs
+
 returns : tie.Need-returns
 returns c =
-    let a = c .before .before .before .before .before .before .before .before .before .before .before .args in
-    misplaced-byte (a .r) (a .event .now) (c .before .before .before .before .before .before .before .before .before .before .before .pre .4) (a .line .now) (a .image .now) (c .before .before .before .before .before .before .before .before .before .before .before .pre .3) (c .before .before .before .before .before .takes .ensures) (not-true _ (c .before .before .before .before .if1 .taken)) (c .before .before .fault .ensures .0) (c .before .before .fault .ensures .1)
+    let a = c .before .before .before .before .before .before .before .before .before .before .before .before .before .before .before .before .before .args in
+    let p = c .before .before .before .before .before .before .before .before .before .before .before .before .before .before .before .before .before .pre in
+    fault-there (a .r) (a .event .now) (a .image .now) (p .0) (p .5) (p .1) (p .2) (a .bytes .now) (p .3) (p .4) (a .line .now) (c .before .before .before .before .before .before .before .before .before .before .put-text .ensures) (c .before .before .before .before .before .takes .ensures) (not-true _ (c .before .before .before .before .if1 .taken)) (c .before .before .fault .ensures .0) (c .before .before .fault .ensures .1)
+
+cast-wait : tie.Need-cast-wait
+cast-wait c = search needs
 
 wait-requires : tie.Need-wait-requires
 wait-requires c κs = search needs
 
+same-length-3 : tie.Need-same-length-3
+same-length-3 c = search needs
+
 returns-2 : tie.Need-returns-2
 returns-2 c =
-    let a = c .before .before .before .before .before .before .before .before .before .before .args in
-    event-byte (a .r) (a .event .now) (c .before .before .before .before .before .before .before .before .before .before .pre .4) (a .line .now) (a .image .now) (c .before .before .before .before .before .before .before .before .before .before .pre .3) (c .before .before .before .before .takes .ensures) (not-false _ (c .before .before .before .if1 .left)) (omega arith) (c .wait .ensures .0) (c .wait .ensures .1)
+    let a = c .before .before .before .before .before .before .before .before .before .before .before .before .before .before .before .args in
+    let p = c .before .before .before .before .before .before .before .before .before .before .before .before .before .before .before .pre in
+    more-there (a .r) (a .event .now) (a .image .now) (p .0) (p .5) (p .1) (p .2) (a .bytes .now) (p .3) (p .4) (a .line .now) (c .before .before .before .before .before .before .before .before .put-text .ensures) (c .before .before .before .takes .ensures) (not-false _ (c .before .before .if1 .left)) (omega arith) (c .wait .ensures .0) (c .wait .ensures .1)
 
 cast-run-event : tie.Need-cast-run-event
 cast-run-event c = search needs
@@ -50,42 +67,56 @@ add-run-event c = search needs
 
 run-event-requires : tie.Need-run-event-requires
 run-event-requires c κs =
-    let a = c .before .before .before .before .before .before .before .before .before .before .before .before .args in
-    let o = step (a .image .now) (a .event .now) in
-    omega (arith, line-most (a .r .steps + 1) o (omega (arith, c .before .before .before .before .before .before .before .before .before .before .before .before .pre .2)) (step-small (a .image .now) (a .event .now)), c .before .before .before .before .before .before .before .before .before .before .before .before .pre .5)
+    let a = c .before .before .before .before .before .before .before .before .before .before .before .before .before .before .before .before .before .before .args in
+    let p = c .before .before .before .before .before .before .before .before .before .before .before .before .before .before .before .before .before .before .pre in
+    let e = c .before .before .before .before .before .before .before .before .before .before .before .put-text .last .0 in
+    let n = steps-below (a .r) (a .event .now) (a .image .now) (p .0) (p .5) (p .2) in
+    omega (arith, line-most (a .r .steps + 1) (step (a .image .now) e) (omega (arith, n)) (step-small (a .image .now) e), p .6)
 
 sub-onward : tie.Need-sub-onward
 sub-onward c = search needs
 
 add-onward : tie.Need-add-onward
-add-onward c = search needs
+add-onward c =
+    let a = c .before .before .before .before .before .before .before .before .before .before .before .before .before .before .before .before .before .before .before .before .before .before .before .before .before .args in
+    let p = c .before .before .before .before .before .before .before .before .before .before .before .before .before .before .before .before .before .before .before .before .before .before .before .before .before .pre in
+    record { fits = omega (arith, steps-below (a .r) (a .event .now) (a .image .now) (p .0) (p .5) (p .2)) }
 
 onward-requires : tie.Need-onward-requires
 onward-requires c κs = search needs
 
-same-length-2 : tie.Need-same-length-2
-same-length-2 c = search needs
+same-length-4 : tie.Need-same-length-4
+same-length-4 c = search needs
 
-same-length-3 : tie.Need-same-length-3
-same-length-3 c = search needs
+same-length-5 : tie.Need-same-length-5
+same-length-5 c = search needs
+
+same-length-6 : tie.Need-same-length-6
+same-length-6 c = search needs
 
 returns-3 : tie.Need-returns-3
 returns-3 c =
-    let a = c .before .before .before .before .before .before .before .before .before .before .before .before .before .before .before .before .before .before .before .before .args in
-    last-byte (a .r) (a .event .now) (c .before .before .before .before .before .before .before .before .before .before .before .before .before .before .before .before .before .before .before .before .pre .4) (a .line .now) (a .image .now) (c .before .before .before .before .before .before .before .before .before .before .before .before .before .before .before .before .before .before .before .before .pre .3) (c .before .before .before .before .before .before .before .before .before .before .before .before .before .before .takes .ensures) (not-false _ (c .before .before .before .before .before .before .before .before .before .before .before .before .before .if1 .left)) (omega arith) refl (c .before .before .before .before .before .before .before .run-event .ensures .0) (c .before .before .before .before .before .before .before .run-event .ensures .1) (c .onward .ensures)
+    let a = c .before .before .before .before .before .before .before .before .before .before .before .before .before .before .before .before .before .before .before .before .before .before .before .before .before .before .args in
+    let p = c .before .before .before .before .before .before .before .before .before .before .before .before .before .before .before .before .before .before .before .before .before .before .before .before .before .before .pre in
+    whole-there (a .r) (a .event .now) (a .image .now) (p .0) (p .5) (p .1) (p .2) (a .bytes .now) (p .3) (p .4) (a .line .now) (c .before .before .before .before .before .before .before .before .before .before .before .before .before .before .before .before .before .before .before .put-text .ensures) (c .before .before .before .before .before .before .before .before .before .before .before .before .before .before .takes .ensures) (not-false _ (c .before .before .before .before .before .before .before .before .before .before .before .before .before .if1 .left)) (omega arith) (c .before .before .before .before .before .before .before .before .before .before .before .before .before .before .before .before .before .before .before .put-text .kept .0 ∙ p .5) refl (c .before .before .before .before .before .before .before .run-event .ensures .0) (c .before .before .before .before .before .before .before .run-event .ensures .1) (c .onward .ensures)
 
 pub gather-spec : {M : Type 1} → statement M
 gather-spec =
     tie.close
     (tie.spec
+    cast-put-text
+    put-text-requires
     cast-takes
-    shared-slice-read-takes
+    slice-read-takes
     cast-takes-2
     takes-requires
     fault-requires
     same-length
+    same-length-2
     returns
+    cast-wait
     wait-requires
+    same-length-3
     returns-2
     cast-run-event
     add-run-event
@@ -93,6 +124,7 @@ gather-spec =
     sub-onward
     add-onward
     onward-requires
-    same-length-2
-    same-length-3
+    same-length-4
+    same-length-5
+    same-length-6
     returns-3)

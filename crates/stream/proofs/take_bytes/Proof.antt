@@ -1,8 +1,9 @@
-use Rattle.stream.proofs.Loops.{Going, begun, ended, in-line, below, taken}
-use Prim.Native.Nat.{_-_}
-use mathlib.Core.Path.{refl, sym, _∙_}
-use lib.ListN.{length as size}
+use Rattle.stream.proofs.Loops.{Going, begun, ended, some-there, chunk-length, in-line, below, taken}
+use Prim.Native.Nat.{ℕ, _+_, _-_}
+use mathlib.Core.Path.{_≡_, refl, sym, _∙_, ap}
+use lib.ListN.{length as size, take, drop}
 use lib.Seq.{length-take-le}
+use Rattle.words.proofs.Bytes.{Bytes, bytes-take, bytes-drop}
 use Rattle.stream.specs.Terms.{standingBy}
 use native.Mathlib.Omega.{arith}
 use Rattle.stream.proofs.take_bytes.Statement.{statement}
@@ -22,49 +23,116 @@ loop-holds c =
     let p = c .before .before .before .before .pre in
     begun (a .r) (a .part .now) (a .out .now) (a .event .now) (a .image .now) _ (p .0) (p .1) (p .2) (record { small = λ i. omega (arith, c .before .shared-slice-known .given i) }) refl
 
-shared-slice-read-turn : tie.Need-shared-slice-read-turn Inv-loop μ-loop
-shared-slice-read-turn c =
+sub-at-once : tie.Need-sub-at-once Inv-loop μ-loop
+sub-at-once c =
     omega arith
 
-slice-aggregate-turn : tie.Need-slice-aggregate-turn Inv-loop μ-loop
-slice-aggregate-turn c =
-    sym (c .before .before .before .before .before .loop .inv .line-length)
+at-once-requires : tie.Need-at-once-requires Inv-loop μ-loop
+at-once-requires c κs =
+    c .before .loop .inv .few
 
-turn-requires : tie.Need-turn-requires Inv-loop μ-loop
-turn-requires c κs =
-    let v = c .before .before .before .before .before .loop .inv in
-    (v .ready, v .few, v .sixteen, v .line-length)
+add-end : tie.Need-add-end Inv-loop μ-loop
+add-end c =
+    let v = c .before .before .loop .inv in
+    let n = some-there v (c .before .loop-test .taken) (c .at-once .ensures) in
+    record { fits = omega (arith, c .before .before .before .before .before .before .before .good .1 .1 .1 .0, n .1) }
+
+sub-take-some : tie.Need-sub-take-some Inv-loop μ-loop
+sub-take-some c =
+    omega arith
+
+part-take-some-start : tie.Need-part-take-some-start Inv-loop μ-loop
+part-take-some-start c =
+    omega arith
+
+part-take-some-end : tie.Need-part-take-some-end Inv-loop μ-loop
+part-take-some-end c =
+    let v = c .before .before .before .before .loop .inv in
+    let n = some-there v (c .before .before .before .loop-test .taken) (c .before .before .at-once .ensures) in
+    n .1
+
+slice-aggregate-take-some : tie.Need-slice-aggregate-take-some Inv-loop μ-loop
+slice-aggregate-take-some c =
+    sym (c .before .before .before .before .before .before .loop .inv .line-length)
+
+take-some-requires : tie.Need-take-some-requires Inv-loop μ-loop
+take-some-requires c κs =
+    let l = c .before .before .before .before .before .before .loop in
+    let t = c .before .before .before .before .before .loop-test .taken in
+    let a = c .before .before .before .before .at-once in
+    let f = c .before .before .before .before .before .before .before .before .before .before .before .args .part .now in
+    let k : l .i + a .result - l .i ≡ a .result = omega arith in
+    let h = ap (λ (k : ℕ). take k (drop (l .i) f)) k in
+    let n = some-there (l .inv) t (a .ensures) in
+    let m = chunk-length (l .inv) t (a .ensures) h in
+    (l .inv .ready, omega (arith, m, n .2), omega (arith, m, n .0), λ z. m ∙ n .3 z, l .inv .sixteen, l .inv .line-length)
 
 array-share-prefix-line : tie.Need-array-share-prefix-line Inv-loop μ-loop
 array-share-prefix-line c =
-    omega (arith, in-line (c .before .before .before .before .before .before .before .before .before .before .before .before .before .loop .inv) (omega arith) (c .before .before .before .before .before .before .before .turn .ensures), c .before .before .before .before .before .before .before .before .before .before .before .before .before .loop .inv .line-length)
+    let l = c .before .before .before .before .before .before .before .before .before .before .before .before .before .before .loop in
+    let t = c .before .before .before .before .before .before .before .before .before .before .before .before .before .loop-test .taken in
+    let a = c .before .before .before .before .before .before .before .before .before .before .before .before .at-once in
+    let f = c .before .before .before .before .before .before .before .before .before .before .before .before .before .before .before .before .before .before .before .args .part .now in
+    let k : l .i + a .result - l .i ≡ a .result = omega arith in
+    let h = ap (λ (k : ℕ). take k (drop (l .i) f)) k in
+    let small : Bytes f = record { small = λ i. omega (arith, c .before .before .before .before .before .before .before .before .before .before .before .before .before .before .before .before .shared-slice-known .given i) } in
+    let b = bytes-take (l .i + a .result - l .i) (drop (l .i) f) (bytes-drop (l .i) f small) in
+    let w = c .before .before .before .before .before .before .before .take-some in
+    omega (arith, in-line (l .inv) t (a .ensures) h b (w .ensures), w .kept .1 .1 .1 .1 .0, l .inv .line-length)
 
 slice-aggregate-add : tie.Need-slice-aggregate-add Inv-loop μ-loop
 slice-aggregate-add c =
-    let w = c .before .before .before .before .before .before .before .before .turn in
-    let l = in-line (c .before .before .before .before .before .before .before .before .before .before .before .before .before .before .loop .inv) (omega arith) (w .ensures) in
-    sym (length-take-le (w .result .length) (w .last .1 .1 .1 .1 .0) (omega (arith, l, w .kept .1 .1 .1 .1 .0, c .before .before .before .before .before .before .before .before .before .before .before .before .before .before .loop .inv .line-length)))
+    let l = c .before .before .before .before .before .before .before .before .before .before .before .before .before .before .before .loop in
+    let t = c .before .before .before .before .before .before .before .before .before .before .before .before .before .before .loop-test .taken in
+    let a = c .before .before .before .before .before .before .before .before .before .before .before .before .before .at-once in
+    let f = c .before .before .before .before .before .before .before .before .before .before .before .before .before .before .before .before .before .before .before .before .args .part .now in
+    let k : l .i + a .result - l .i ≡ a .result = omega arith in
+    let h = ap (λ (k : ℕ). take k (drop (l .i) f)) k in
+    let small : Bytes f = record { small = λ i. omega (arith, c .before .before .before .before .before .before .before .before .before .before .before .before .before .before .before .before .before .shared-slice-known .given i) } in
+    let b = bytes-take (l .i + a .result - l .i) (drop (l .i) f) (bytes-drop (l .i) f small) in
+    let w = c .before .before .before .before .before .before .before .before .take-some in
+    let m = in-line (l .inv) t (a .ensures) h b (w .ensures) in
+    let n = length-take-le (w .result .length) (w .last .1 .1 .1 .1 .0) (omega (arith, m, w .kept .1 .1 .1 .1 .0, l .inv .line-length)) in
+    sym n
 
 add-requires : tie.Need-add-requires Inv-loop μ-loop
 add-requires c κs =
-    let w = c .before .before .before .before .before .before .before .before .turn in
-    let l = in-line (c .before .before .before .before .before .before .before .before .before .before .before .before .before .before .loop .inv) (omega arith) (w .ensures) in
-    let n = length-take-le (w .result .length) (w .last .1 .1 .1 .1 .0) (omega (arith, l, w .kept .1 .1 .1 .1 .0, c .before .before .before .before .before .before .before .before .before .before .before .before .before .before .loop .inv .line-length)) in
-    (below (c .before .before .before .before .before .before .before .before .before .before .before .before .before .before .loop .inv) (omega arith) (w .ensures), omega (arith, n, l))
-
-add-i : tie.Need-add-i Inv-loop μ-loop
-add-i c =
-    record { fits = omega (arith, c .before .before .before .before .before .before .before .before .before .before .before .before .before .before .before .before .before .before .before .before .before .before .good .1 .1 .1 .0, c .before .before .before .before .before .before .before .before .before .before .before .before .before .before .before .before .loop-test .taken) }
+    let l = c .before .before .before .before .before .before .before .before .before .before .before .before .before .before .before .loop in
+    let t = c .before .before .before .before .before .before .before .before .before .before .before .before .before .before .loop-test .taken in
+    let a = c .before .before .before .before .before .before .before .before .before .before .before .before .before .at-once in
+    let f = c .before .before .before .before .before .before .before .before .before .before .before .before .before .before .before .before .before .before .before .before .args .part .now in
+    let k : l .i + a .result - l .i ≡ a .result = omega arith in
+    let h = ap (λ (k : ℕ). take k (drop (l .i) f)) k in
+    let small : Bytes f = record { small = λ i. omega (arith, c .before .before .before .before .before .before .before .before .before .before .before .before .before .before .before .before .before .shared-slice-known .given i) } in
+    let b = bytes-take (l .i + a .result - l .i) (drop (l .i) f) (bytes-drop (l .i) f small) in
+    let w = c .before .before .before .before .before .before .before .before .take-some in
+    let m = in-line (l .inv) t (a .ensures) h b (w .ensures) in
+    let n = length-take-le (w .result .length) (w .last .1 .1 .1 .1 .0) (omega (arith, m, w .kept .1 .1 .1 .1 .0, l .inv .line-length)) in
+    (below (l .inv) t (a .ensures) h b (w .ensures), omega (arith, n, m))
 
 loop-less : tie.Need-loop-less Inv-loop μ-loop
 loop-less c =
-    omega arith
+    let l = c .before .before .before .before .before .before .before .before .before .before .before .before .before .before .before .before .before .before .loop in
+    let t = c .before .before .before .before .before .before .before .before .before .before .before .before .before .before .before .before .before .loop-test .taken in
+    let a = c .before .before .before .before .before .before .before .before .before .before .before .before .before .before .before .before .at-once in
+    let f = c .before .before .before .before .before .before .before .before .before .before .before .before .before .before .before .before .before .before .before .before .before .before .before .args .part .now in
+    let k : l .i + a .result - l .i ≡ a .result = omega arith in
+    let h = ap (λ (k : ℕ). take k (drop (l .i) f)) k in
+    let n = some-there (l .inv) t (a .ensures) in
+    omega (arith, n .0, n .1)
 
 loop-again : tie.Need-loop-again Inv-loop μ-loop
 loop-again c =
-    let w = c .before .before .before .before .before .before .before .before .before .before .before .turn in
-    let l = c .before .before .before .before .before .before .before .before .before .before .before .before .before .before .before .before .before .loop in
-    taken (l .inv) (omega arith) (w .ensures) (omega (arith, c .before .before .before .before .before .before .before .before .before .before .before .before .before .before .before .before .before .before .before .shared-slice-known .given (l .i))) (c .before .before .add .ensures) (w .kept .1 .0) (w .kept .1 .1 .0) (c .before .before .add .kept .0) (w .kept .1 .1 .1 .1 .0)
+    let l = c .before .before .before .before .before .before .before .before .before .before .before .before .before .before .before .before .before .before .loop in
+    let t = c .before .before .before .before .before .before .before .before .before .before .before .before .before .before .before .before .before .loop-test .taken in
+    let a = c .before .before .before .before .before .before .before .before .before .before .before .before .before .before .before .before .at-once in
+    let f = c .before .before .before .before .before .before .before .before .before .before .before .before .before .before .before .before .before .before .before .before .before .before .before .args .part .now in
+    let k : l .i + a .result - l .i ≡ a .result = omega arith in
+    let h = ap (λ (k : ℕ). take k (drop (l .i) f)) k in
+    let small : Bytes f = record { small = λ i. omega (arith, c .before .before .before .before .before .before .before .before .before .before .before .before .before .before .before .before .before .before .before .before .shared-slice-known .given i) } in
+    let b = bytes-take (l .i + a .result - l .i) (drop (l .i) f) (bytes-drop (l .i) f small) in
+    let w = c .before .before .before .before .before .before .before .before .before .before .before .take-some in
+    taken (l .inv) t (a .ensures) h b (w .ensures) (c .before .before .add .ensures) (w .kept .1 .0) (w .kept .1 .1 .0) (c .before .before .add .kept .0) (w .kept .1 .1 .1 .1 .0)
 
 same-length : tie.Need-same-length Inv-loop μ-loop
 same-length c =
@@ -89,13 +157,17 @@ take-bytes-spec =
     Inv-loop
     μ-loop
     loop-holds
-    shared-slice-read-turn
-    slice-aggregate-turn
-    turn-requires
+    sub-at-once
+    at-once-requires
+    add-end
+    sub-take-some
+    part-take-some-start
+    part-take-some-end
+    slice-aggregate-take-some
+    take-some-requires
     array-share-prefix-line
     slice-aggregate-add
     add-requires
-    add-i
     loop-less
     loop-again
     same-length
