@@ -9,7 +9,8 @@ use native.Mathlib.Numerals.{add-one}
 use lib.Dec.{eqb, ltb}
 use lib.ListN.{length, take, drop, getD, length-append, length-drop, take-append-drop, drop-of-length-le}
 use lib.Seq.{length-take-le, drop-cons, drop-drop, drop-length}
-use borrow.Author.Tests.{eq-eqb, ne-eqb, eqb-false, ltb-true, ltb-false}
+use borrow.Author.Tests.{eq-eqb, ne-eqb, eqb-true, eqb-false, ltb-true, ltb-false}
+use Rattle.words.specs.Word.{wordAt}
 use Rattle.words.proofs.Bytes.{Bytes}
 use Rattle.texts.specs.Text.{written}
 use Rattle.texts.proofs.Writing.{written-append, front-of}
@@ -166,3 +167,47 @@ module _ (s : List ℕ) (i : ℕ) where
     pub zero-onward : getD s i 0 ≡ 0 → allZero (drop (i + 1) s) ≡ allZero (drop i s)
     unfolding allZero
     zero-onward h = sym (ap allZero split ∙ rw (eq-eqb (getD s i 0) 0 h))
+
+-- a word of them
+module _ (s : List ℕ) (i : ℕ) (l : i + 4 ≤ length s) where
+  pub word-onward : wordAt s i ≡ 0 → allZero (drop (i + 4) s) ≡ allZero (drop i s)
+  unfolding wordAt
+  word-onward h =
+      let j : i + 1 + 1 + 1 + 1 ≡ i + 4 = omega arith in
+      let k : i + 1 + 1 + 1 ≡ i + 3 = omega arith in
+      let m : i + 1 + 1 ≡ i + 2 = omega arith in
+      ap (λ (n : ℕ). allZero (drop n s)) (sym j)
+      ∙ zero-onward s (i + 1 + 1 + 1) (omega arith) (ap (λ (n : ℕ). getD s n 0) k ∙ omega arith)
+      ∙ zero-onward s (i + 1 + 1) (omega arith) (ap (λ (n : ℕ). getD s n 0) m ∙ omega arith)
+      ∙ zero-onward s (i + 1) (omega arith) (omega arith)
+      ∙ zero-onward s i (omega arith) (omega arith)
+
+  pub word-broken : wordAt s i ≢ 0 → false ≡ allZero (drop i s)
+  unfolding wordAt
+  word-broken h = to (eqb (getD s i 0) 0) refl (eqb (getD s (i + 1) 0) 0) refl (eqb (getD s (i + 2) 0) 0) refl
+    where
+      m : i + 1 + 1 ≡ i + 2
+      m = omega arith
+
+      k : i + 1 + 1 + 1 ≡ i + 3
+      k = omega arith
+
+      at : (n j : ℕ) → n ≡ j → getD s n 0 ≡ getD s j 0
+      at n j e = ap (λ (n : ℕ). getD s n 0) e
+
+      to : (a : Bool) → eqb (getD s i 0) 0 ≡ a → (b : Bool) → eqb (getD s (i + 1) 0) 0 ≡ b → (c : Bool) → eqb (getD s (i + 2) 0) 0 ≡ c → false ≡ allZero (drop i s)
+      to false p b q c r = zero-broken s i (omega arith) (eqb-false _ _ p)
+      to true p false q c r =
+          zero-broken s (i + 1) (omega arith) (eqb-false _ _ q) ∙ zero-onward s i (omega arith) (eqb-true _ _ p)
+      to true p true q false r =
+          zero-broken s (i + 1 + 1) (omega arith) (λ e. eqb-false _ _ r (sym (at _ _ m) ∙ e))
+          ∙ zero-onward s (i + 1) (omega arith) (eqb-true _ _ q)
+          ∙ zero-onward s i (omega arith) (eqb-true _ _ p)
+      to true p true q true r =
+          let x = eqb-true (getD s i 0) 0 p in
+          let y = eqb-true (getD s (i + 1) 0) 0 q in
+          let z = eqb-true (getD s (i + 2) 0) 0 r in
+          zero-broken s (i + 1 + 1 + 1) (omega arith) (λ e. h (omega (arith, x, y, z, sym (at _ _ k) ∙ e)))
+          ∙ zero-onward s (i + 1 + 1) (omega arith) (at _ _ m ∙ z)
+          ∙ zero-onward s (i + 1) (omega arith) y
+          ∙ zero-onward s i (omega arith) x

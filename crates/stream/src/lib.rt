@@ -219,16 +219,24 @@ fn keep(state: &mut [u8], r: Reader, event: &[u8])
     put_text(state, 0, &bytes);
 }
 
-// Are all bytes zero from `at` on?
-fn is_zero_from(bytes: &[u8], at: usize) -> bool
-    ensures { λ b. ⌜ b ≡ allZero (drop at (now (bytes .entry))) ⌝ }
+// Are all bytes of the state zero from `at` on? Word by word, as soon as a word begins there.
+fn is_zero_from(state: &[u8], at: usize) -> bool
+    requires { ⌜ length (now state) ≡ stateBytes ⌝ }
+    ensures { λ b. ⌜ b ≡ allZero (drop at (now (state .entry))) ⌝ }
 {
     let mut i = at;
-    while i < bytes.len() {
-        if bytes[i] != 0 {
-            return false;
+    while i < STATE_BYTES {
+        if i % 4 == 0 {
+            if words::word_at(state, i) != 0 {
+                return false;
+            }
+            i += 4;
+        } else {
+            if state[i] != 0 {
+                return false;
+            }
+            i += 1;
         }
-        i += 1;
     }
     true
 }

@@ -88,7 +88,8 @@ add-is-zero-from : tie.Need-add-is-zero-from
 add-is-zero-from c = search needs
 
 is-zero-from-requires : tie.Need-is-zero-from-requires
-is-zero-from-requires c κs = search needs
+is-zero-from-requires c κs =
+    c .before .before .before .before .before .before .before .before .before .before .before .before .before .before .before .before .before .before .before .before .before .before .before .before .before .before .before .before .pre
 
 returns-6 : tie.Need-returns-6
 returns-6 c =
