@@ -38,13 +38,7 @@ struct follow {
 
 /* ---- what is wrong, from the state of the stream before it */
 
-/* The words of a state; behind them stand the bytes of what is not complete. */
-enum { SECTION, EVENTS_TO_COME, EVENTS_COMPLETE, BYTES_HELD, FIRST_HELD = 16 };
-
-static uint32_t word_of(const uint8_t *state, int word)
-{
-    return frostsorrel_word(state + 4 * word);
-}
+enum { FIRST_GATHERED = 16 }; /* behind the words of a state */
 
 static int is_typed(uint8_t byte)
 {
@@ -53,8 +47,8 @@ static int is_typed(uint8_t byte)
 
 static void say_count(struct text *t, const uint8_t *state, size_t at, uint8_t high)
 {
-    uint8_t low = state[FIRST_HELD];
-    int section = (int)word_of(state, SECTION) - 1;
+    uint8_t low = state[FIRST_GATHERED];
+    int section = (int)frostsorrel_stream_word(state, FROSTSORREL_STREAM_SECTION) - 1;
 
     say_over_counted(t, section, low | high << 8, at - 1);
     if (section == 0 && is_typed(low) && is_typed(high)) /* a text gets no further than this */
@@ -64,28 +58,28 @@ static void say_count(struct text *t, const uint8_t *state, size_t at, uint8_t h
 /* The state is that before the byte at fault, which is byte `at` of the trace. */
 static void say_fault(struct text *t, const uint8_t *state, size_t at, uint8_t byte)
 {
-    uint32_t section = word_of(state, SECTION);
+    uint32_t section = frostsorrel_stream_word(state, FROSTSORREL_STREAM_SECTION);
 
     if (section > SECTIONS)
         say_too_long(t, at);
-    else if (word_of(state, EVENTS_TO_COME) == 0)
+    else if (frostsorrel_stream_word(state, FROSTSORREL_STREAM_LEFT) == 0)
         say_count(t, state, at, byte);
     else
         text_add(t, "event %lu, at byte %lu, is operation %d; section %lu holds %s",
-                 wide(word_of(state, EVENTS_COMPLETE) + 1), (unsigned long)at, byte, wide(section),
+                 wide(frostsorrel_stream_word(state, FROSTSORREL_STREAM_STEPS) + 1), (unsigned long)at, byte, wide(section),
                  held_in((int)section - 1));
 }
 
 static void say_too_short(struct text *t, const uint8_t *state, size_t length)
 {
-    uint32_t section = word_of(state, SECTION), held = word_of(state, BYTES_HELD);
-    uint32_t missing = FROSTSORREL_EVENT_BYTES * word_of(state, EVENTS_TO_COME) - held;
+    uint32_t section = frostsorrel_stream_word(state, FROSTSORREL_STREAM_SECTION), held = frostsorrel_stream_word(state, FROSTSORREL_STREAM_GATHERED);
+    uint32_t missing = FROSTSORREL_EVENT_BYTES * frostsorrel_stream_word(state, FROSTSORREL_STREAM_LEFT) - held;
 
-    if (word_of(state, EVENTS_TO_COME) == 0)
+    if (frostsorrel_stream_word(state, FROSTSORREL_STREAM_LEFT) == 0)
         say_no_count(t, (int)section - 1, length);
     else
         text_add(t, "too short: the file ends at byte %lu, %s event %lu; section %lu (%s) takes %lu %s more",
-                 (unsigned long)length, held ? "in the middle of" : "before", wide(word_of(state, EVENTS_COMPLETE) + 1),
+                 (unsigned long)length, held ? "in the middle of" : "before", wide(frostsorrel_stream_word(state, FROSTSORREL_STREAM_STEPS) + 1),
                  wide(section), held_in((int)section - 1), wide(missing), missing == 1 ? "byte" : "bytes");
 }
 
