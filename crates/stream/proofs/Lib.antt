@@ -5,6 +5,7 @@ pub mod Cuts
 pub mod Ready
 pub mod State
 pub mod Story
+pub mod Accounts
 pub mod Walk
 pub mod Chunks
 pub mod Bytewise

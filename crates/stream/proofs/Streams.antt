@@ -16,15 +16,16 @@ use Rattle.words.proofs.Bytes.{Bytes, bytes-take}
 use Rattle.fresh.proofs.Good.{fresh-facts}
 use Rattle.model.specs.Step.{step}
 use Rattle.model.proofs.Lengths.{step-length}
-use Rattle.trace.specs.Trace.{wellFormed, imageAfter, header}
+use Rattle.trace.specs.Trace.{wellFormed, imageAfter, header, refusedLine, ending}
+use Rattle.trace.proofs.Bound.{ending-most}
 use Rattle.stream.specs.Stream.{Standing, behind, over, isOver, opened, ended, fed, printed, complete, lastLine, transcript}
 use Rattle.stream.specs.Calls.{stateOf, standing, Call, refused, prints, lengths, against, unless, opening, fedCall, feeding, lastCall, closing, Leaves, OpenCall, FeedCall, CloseCall}
 use Rattle.stream.specs.Terms.{Ready}
-use Rattle.stream.specs.Agreement.{Held, after, Part, fedTo, afterParts, roomy, begun, lastOf, file, Ends, Cutting, Nine, Rooms, Over, Finished}
+use Rattle.stream.specs.Agreement.{Held, Stands, Feeding, after, Part, fedTo, afterParts, roomy, begun, lastOf, file, Ends, Cutting, Nine, Rooms, Over, Finished}
 use Rattle.stream.proofs.Cuts.{fed-append, printed-append, fed-over, printed-over}
-use Rattle.stream.proofs.Ready.{opened-ready, ended-ready, fed-ready, printed-fits}
-use Rattle.stream.proofs.State.{length-state, section-back, standing-back, ready-state, ready-standing}
-use Rattle.stream.proofs.Judging.{Stands, free, past, unfit, stands, over-already, nothing-against}
+use Rattle.stream.proofs.Ready.{opened-ready, ended-ready, fed-ready, steps-few, printed-most, printed-fits}
+use Rattle.stream.proofs.State.{length-state, section-back, standing-back, ready-state, ready-standing, standing-state}
+use Rattle.stream.proofs.Judging.{Stands as Against, taken, free, past, unfit, stands, over-already, nothing-against}
 use Rattle.stream.proofs.Story.{story}
 use Rattle.stream.proofs.Walk.{all-read}
 use Rattle.stream.proofs.Came.{read-back}
@@ -35,11 +36,11 @@ module _ (s t o : List ℕ) (σ : Standing) (u : List ℕ) (r : ℕ) where
   abbrev there : Call
   there = record { image = σ .image; state = stateOf σ; text = u ++ drop (length u) o; refusal = r; bytes = length u }
 
-  pub prints-fits : length u ≤ length o → prints s t o σ u r ≡ there
+  prints-fits : length u ≤ length o → prints s t o σ u r ≡ there
   unfolding prints
   prints-fits h = rw (le-ltb (length o) (length u) h)
 
-  pub prints-short : length o < length u → prints s t o σ u r ≡ refused s t o 9
+  prints-short : length o < length u → prints s t o σ u r ≡ refused s t o 9
   unfolding prints
   prints-short h = rw (lt-ltb (length o) (length u) h)
 
@@ -57,7 +58,7 @@ module _ (s t o : List ℕ) (σ : Standing) (u : List ℕ) (r : ℕ) where
           record { exactly = (λ h. absurd (never h), λ h. absurd (omega arith)); unchanged = λ h. absurd (never h) }
 
   -- no 9: it is there
-  pub not-nine : r ≢ 9 → prints s t o σ u r .refusal ≢ 9 → prints s t o σ u r ≡ there
+  not-nine : r ≢ 9 → prints s t o σ u r .refusal ≢ 9 → prints s t o σ u r ≡ there
   not-nine n h = to (ltb (length o) (length u)) refl
     where
       to : (a : Bool) → ltb (length o) (length u) ≡ a → prints s t o σ u r ≡ there
@@ -82,7 +83,7 @@ module _ (s t : List ℕ) (h : length s ≡ 640) (k : length t ≡ 32) where
   lengths-hold : lengths s t ≡ true
   lengths-hold = rw (eq-eqb (length s) 640 h, eq-eqb (length t) 32 k)
 
-  pub opening-is : (o : List ℕ) → opening s t o ≡ prints s t o opened header 0
+  opening-is : (o : List ℕ) → opening s t o ≡ prints s t o opened header 0
   unfolding opening
   opening-is o = rw lengths-hold (unless-none 0 s t o (prints s t o opened header 0) refl)
 
@@ -90,11 +91,11 @@ module _ (s t : List ℕ) {r : ℕ} (h : against s t ≡ r) (n : r ≢ 0) where
   stops : (o : List ℕ) (c : Call) → unless (against s t) s t o c ≡ refused s t o r
   stops o c = unless-some (against s t) s t o c (λ z. n (sym h ∙ z)) ∙ ap (refused s t o) h
 
-  pub feeding-stops : (p o : List ℕ) → feeding s t p o ≡ refused s t o r
+  feeding-stops : (p o : List ℕ) → feeding s t p o ≡ refused s t o r
   unfolding feeding
   feeding-stops p o = stops o (fedCall s t p o)
 
-  pub closing-stops : (o : List ℕ) → closing s t o ≡ refused s t o r
+  closing-stops : (o : List ℕ) → closing s t o ≡ refused s t o r
   unfolding closing
   closing-stops o = stops o (lastCall s t o)
 
@@ -102,11 +103,11 @@ over-is : (s t : List ℕ) → against s t ≡ 8 → Over s t
 over-is s t h = record { feeds = feeding-stops s t h (λ z. omega arith); closes = closing-stops s t h (λ z. omega arith) }
 
 module _ (s t : List ℕ) (h : against s t ≡ 0) where
-  pub feeding-is : (p o : List ℕ) → feeding s t p o ≡ fedCall s t p o
+  feeding-is : (p o : List ℕ) → feeding s t p o ≡ fedCall s t p o
   unfolding feeding
   feeding-is p o = unless-none (against s t) s t o (fedCall s t p o) h
 
-  pub closing-is : (o : List ℕ) → closing s t o ≡ lastCall s t o
+  closing-is : (o : List ℕ) → closing s t o ≡ lastCall s t o
   unfolding closing
   closing-is o = unless-none (against s t) s t o (lastCall s t o) h
 
@@ -115,7 +116,8 @@ module _ (s t : List ℕ) (h : against s t ≡ 0) where
 nine-as : {s t o u : List ℕ} {c d : Call} → c ≡ d → Nine s t o u d → Nine s t o u c
 nine-as {s} {t} {o} {u} e n = subst (λ (c : Call). Nine s t o u c) (sym e) n
 
-module _ (s t p o : List ℕ) (small : Bytes t) (b : Bytes p) (l : length p + 31 ≤ length o) where
+-- where any text has room
+module _ (s t p o : List ℕ) (small : Bytes t) (l : Ready (standing s t) → length (printed (standing s t) p) ≤ length o) where
   stopped : {r : ℕ} → against s t ≡ r → r ≢ 0 → r ≢ 9 → feeding s t p o .refusal ≢ 9
   stopped e n m h = m (sym (ap (λ (c : Call). c .refusal) (feeding-stops s t e n p o)) ∙ h)
 
@@ -123,14 +125,51 @@ module _ (s t p o : List ℕ) (small : Bytes t) (b : Bytes p) (l : length p + 31
   unfolding fedCall
   enough = to (stands s t) refl
     where
-      to : {r : ℕ} → Stands s t r → against s t ≡ r → feeding s t p o .refusal ≢ 9
+      to : {r : ℕ} → Against s t r → against s t ≡ r → feeding s t p o .refusal ≢ 9
       to (free k) e h =
           let σ = standing s t in
-          let f = printed-fits σ (ready-standing s t (k .state) small (k .left)) p b in
-          let c = feeding-is s t e p o ∙ prints-fits s t o (fed σ p) (printed σ p) (cond (isOver (fed σ p)) 8 0) (omega arith) in
+          let c = feeding-is s t e p o ∙ prints-fits s t o (fed σ p) (printed σ p) (cond (isOver (fed σ p)) 8 0) (l (ready-standing s t (k .state) small (k .left))) in
           neither (isOver (fed σ p)) 8 0 (λ e. omega arith) (λ e. omega arith) (sym (ap (λ (c : Call). c .refusal) c) ∙ h)
       to (past i k z) e h = stopped e (λ z. omega arith) (λ z. omega arith) h
       to unfit e h = stopped e (λ z. omega arith) (λ z. omega arith) h
+
+-- the closing's line is never longer than the refusal line
+last-short : (σ : Standing) → σ .steps ≤ 3000 → length (lastLine σ) ≤ 16
+unfolding lastLine
+last-short σ h = to (eqb (σ .section) behind)
+  where
+    to : (a : Bool) → length (cond a (ending (σ .steps)) refusedLine) ≤ 16
+    to true = omega (arith, ending-most (σ .steps) (omega arith))
+    to false = omega arith
+
+module _ (s t o : List ℕ) (small : Bytes t) (l : 16 ≤ length o) where
+  closes-enough : closing s t o .refusal ≢ 9
+  unfolding lastCall
+  closes-enough = to (stands s t) refl
+    where
+      off : {r : ℕ} → against s t ≡ r → r ≢ 0 → r ≢ 9 → closing s t o .refusal ≢ 9
+      off e n m h = m (sym (ap (λ (c : Call). c .refusal) (closing-stops s t e n o)) ∙ h)
+
+      to : {r : ℕ} → Against s t r → against s t ≡ r → closing s t o .refusal ≢ 9
+      to (free k) e h =
+          let σ = standing s t in
+          let n = last-short σ (steps-few σ (ready-standing s t (k .state) small (k .left))) in
+          let q : ℕ = cond (eqb (wordAt t 0) behind) 0 8 in
+          let c = closing-is s t e o ∙ prints-fits s t o (ended s) (lastLine σ) q (omega arith) in
+          neither (eqb (wordAt t 0) behind) 0 8 (λ e. omega arith) (λ e. omega arith) (sym (ap (λ (c : Call). c .refusal) c) ∙ h)
+      to (past i k z) e h = off e (λ z. omega arith) (λ z. omega arith) h
+      to unfit e h = off e (λ z. omega arith) (λ z. omega arith) h
+
+-- a part without bytes
+nothing-changes : (s t o : List ℕ) → Bytes t → against s t ≡ 0 → feeding s t [] o ≡ refused s t o 0
+unfolding fedCall fed printed standing
+nothing-changes s t o b h =
+    let k = taken s t h in
+    let σ = standing s t in
+    let z = ne-eqb (wordAt t 0) over (k .going) in
+    feeding-is s t h [] o
+    ∙ prints-fits s t o σ [] (cond (isOver σ) 8 0) (omega arith)
+    ∙ ap₂ (λ (y : List ℕ) (r : ℕ). record { image = s; state = y; text = o; refusal = r; bytes = 0 }) (sym (standing-state s t (k .state) b (k .left))) (rw z)
 
 pub rooms : Rooms
 unfolding fedCall lastCall
@@ -141,7 +180,10 @@ rooms =
           let σ = standing s t in
           nine-as (feeding-is s t h p o) (nine s t o (fed σ p) (printed σ p) _ (neither (isOver (fed σ p)) 8 0 (λ e. omega arith) (λ e. omega arith)));
       closes = λ s t o h. nine-as (closing-is s t h o) (nine s t o (ended s) (lastLine (standing s t)) _ (neither (eqb (wordAt t 0) behind) 0 8 (λ e. omega arith) (λ e. omega arith)));
-      enough = enough;
+      enough = λ s t p o small b l. enough s t p o small (λ d. omega (arith, l, printed-fits (standing s t) d p b));
+      most = λ s t p o small b l. enough s t p o small (λ d. omega (arith, l, printed-most (standing s t) d p b));
+      closes-enough = closes-enough;
+      nothing = nothing-changes;
     }
 
 -- ---- once it is over
@@ -192,7 +234,7 @@ module _ (s t p o : List ℕ) (small : Bytes t) (b : Bytes p) (h : feeding s t p
   unfolding fedCall
   fed-finished = to (stands s t) refl
     where
-      to : {r : ℕ} → Stands s t r → against s t ≡ r → Over (feeding s t p o .image) (feeding s t p o .state)
+      to : {r : ℕ} → Against s t r → against s t ≡ r → Over (feeding s t p o .image) (feeding s t p o .state)
       to (free k) e =
           let m : ℕ = cond (isOver (fed σ p)) 8 0 in
           let c : feeding s t p o ≡ there s t o (fed σ p) (printed σ p) m =
@@ -209,7 +251,7 @@ module _ (s t o : List ℕ) (n : closing s t o .refusal ≢ 1) (m : closing s t 
   unfolding lastCall
   close-finished = to (stands s t) refl
     where
-      to : {r : ℕ} → Stands s t r → against s t ≡ r → Over (closing s t o .image) (closing s t o .state)
+      to : {r : ℕ} → Against s t r → against s t ≡ r → Over (closing s t o .image) (closing s t o .state)
       to (free k) e =
           let q : ℕ = cond (eqb (wordAt t 0) behind) 0 8 in
           let c : closing s t o ≡ there s t o (ended s) (lastLine (standing s t)) q =
@@ -225,17 +267,11 @@ finished = record { fed = fed-finished; closed = close-finished }
 
 -- ---- however a file is cut
 
--- the bytes f have been fed
-record Holds (f : List ℕ) (h : Held) : Type 0 where
-  image : h .image ≡ fed opened f .image
-  state : h .state ≡ stateOf (fed opened f)
-  text : h .text ≡ header ++ printed opened f
-
 -- what a call wrote
 wrote : (h : Held) (u o : List ℕ) → h .text ++ take (length u) (u ++ drop (length u) o) ≡ h .text ++ u
 wrote h u o = ap (λ (x : List ℕ). h .text ++ x) (take-append-seam u (drop (length u) o))
 
-begins : (s t o : List ℕ) → length s ≡ 640 → length t ≡ 32 → opening s t o .refusal ≢ 9 → Holds [] (begun s t o)
+begins : (s t o : List ℕ) → length s ≡ 640 → length t ≡ 32 → opening s t o .refusal ≢ 9 → Stands [] (begun s t o)
 unfolding fed printed
 begins s t o h k n =
     let p = prints s t o opened header 0 in
@@ -245,6 +281,7 @@ begins s t o h k n =
       image = ap (λ (c : Call). c .image) c;
       state = ap (λ (c : Call). c .state) c;
       text = ap (λ (c : Call). take (c .bytes) (c .text)) c ∙ take-append-seam header (drop (length header) o) ∙ sym (append-nil header);
+      refusal = ap (λ (c : Call). c .refusal) c;
     }
 
 module _ (f : List ℕ) (b : Bytes f) where
@@ -261,7 +298,7 @@ module _ (f : List ℕ) (b : Bytes f) where
   τ-back = standing-back τ τ-ready
 
   -- a part more
-  module _ (h : Held) (w : Holds f h) (q : Part) where
+  module _ (h : Held) (w : Stands f h) (q : Part) where
     abbrev p : List ℕ
     p = q .part
 
@@ -271,11 +308,11 @@ module _ (f : List ℕ) (b : Bytes f) where
     more-text : (u : List ℕ) → h .text ++ u ≡ header ++ (printed opened f ++ u)
     more-text u = ap (λ (x : List ℕ). x ++ u) (w .text) ∙ append-assoc header (printed opened f) u
 
-    fed-on : fedTo h q .refusal ≢ 9 → Holds (f ++ p) (after h (fedTo h q))
+    fed-on : fedTo h q .refusal ≢ 9 → Stands (f ++ p) (after h (fedTo h q))
     unfolding fedCall
     fed-on n = to (isOver τ) refl
       where
-        to : (a : Bool) → isOver τ ≡ a → Holds (f ++ p) (after h (fedTo h q))
+        to : (a : Bool) → isOver τ ≡ a → Stands (f ++ p) (after h (fedTo h q))
         to true e =
             let o = eqb-true (τ .section) over e in
             let c = call-is ∙ stands-over τ τ-ready τ-length o .feeds p (q .lent) in
@@ -288,6 +325,7 @@ module _ (f : List ℕ) (b : Bytes f) where
                   ∙ more-text []
                   ∙ ap (λ (u : List ℕ). header ++ (printed opened f ++ u)) (sym (printed-over τ o p))
                   ∙ ap (λ (u : List ℕ). header ++ u) (sym (printed-append opened f p));
+              refusal = ap (λ (c : Call). c .refusal) c ∙ sym (ap (λ (σ : Standing). cond (isOver σ) 8 0) z ∙ rw e);
             }
         to false e =
             let o = eqb-false (τ .section) over e in
@@ -311,10 +349,11 @@ module _ (f : List ℕ) (b : Bytes f) where
                   ∙ wrote h (printed τ p) (q .lent)
                   ∙ more-text (printed τ p)
                   ∙ ap (λ (u : List ℕ). header ++ u) (sym (printed-append opened f p));
+              refusal = ap (λ (c : Call). c .refusal) c ∙ ap (λ (σ : Standing). cond (isOver σ) 8 0) (sym z);
             }
 
   -- the closing
-  module _ (h : Held) (w : Holds f h) (e : List ℕ) (n : lastOf h e .refusal ≢ 9) where
+  module _ (h : Held) (w : Stands f h) (e : List ℕ) (n : lastOf h e .refusal ≢ 9) where
     last-is : lastOf h e ≡ closing (τ .image) (stateOf τ) e
     last-is = ap₂ (λ (x y : List ℕ). closing x y e) (w .image) (w .state)
 
@@ -368,19 +407,22 @@ module _ (f : List ℕ) (b : Bytes f) where
             }
 
 -- the parts, one after the other
-parts : (l : List Part) (f : List ℕ) (h : Held) → Bytes (f ++ file l) → Holds f h → roomy h l ≡ true → Holds (f ++ file l) (afterParts h l)
+parts : (l : List Part) (f : List ℕ) (h : Held) → Bytes (f ++ file l) → Stands f h → roomy h l ≡ true → Stands (f ++ file l) (afterParts h l)
 unfolding afterParts roomy flatMap
-parts [] f h b w r = subst (λ (x : List ℕ). Holds x h) (sym (append-nil f)) w
+parts [] f h b w r = subst (λ (x : List ℕ). Stands x h) (sym (append-nil f)) w
 parts (q ∷ l) f h b w r =
     let e = append-assoc f (q .part) (file l) in
     let d = subst Bytes (take-append-seam f (file (q ∷ l))) (bytes-take (length f) (f ++ file (q ∷ l)) b) in
     let n = and-l (not (eqb (fedTo h q .refusal) 9)) (roomy (after h (fedTo h q)) l) r in
     let k = fed-on f d h w q (eqb-false (fedTo h q .refusal) 9 (not-true _ n)) in
-    subst (λ (x : List ℕ). Holds x (afterParts (after h (fedTo h q)) l)) e
+    subst (λ (x : List ℕ). Stands x (afterParts (after h (fedTo h q)) l)) e
     (parts l (f ++ q .part) (after h (fedTo h q)) (subst Bytes (sym e) b) k (and-r (not (eqb (fedTo h q .refusal) 9)) (roomy (after h (fedTo h q)) l) r))
 
+pub fed-parts : Feeding
+fed-parts s t o l h k b n r = parts l [] (begun s t o) b (begins s t o h k n) r
+
 pub cutting : Cutting
-cutting s t o l e h k b n r m = ends (file l) b (afterParts (begun s t o) l) (parts l [] (begun s t o) b (begins s t o h k n) r) e m
+cutting s t o l e h k b n r m = ends (file l) b (afterParts (begun s t o) l) (fed-parts s t o l h k b n r) e m
 
 -- ---- one outcome
 

@@ -110,11 +110,3 @@ module _ (σ : Standing) (g : List ℕ) where
   pub gathers-fault : takes (σ .section) (getD g 0 0) ≡ false → gathers σ g ≡ fault σ
   unfolding gathers
   gathers-fault h = rw h
-
-  pub gathers-more : takes (σ .section) (getD g 0 0) ≡ true → length g < eventBytes → gathers σ g ≡ waits σ g
-  unfolding gathers
-  gathers-more h l = rw (h, lt-ltb (length g) eventBytes l)
-
-  pub gathers-last : takes (σ .section) (getD g 0 0) ≡ true → eventBytes ≤ length g → gathers σ g ≡ runs σ g
-  unfolding gathers
-  gathers-last h l = rw (h, le-ltb (length g) eventBytes l)

@@ -17,7 +17,7 @@ use Rattle.stream.specs.Stream.{Standing, at, behind, over, isOver, open
 
 -- ---- the state bytes
 
--- Traces in parts: the state has 32 bytes: section, left and steps in a word each, how many bytes are gathered in a fourth, then these, and
+-- The state has 32 bytes (D133): section, left and steps in a word each, how many bytes are gathered in a fourth, then these, and
 -- zeros behind them.
 abbrev pub stateBytes : ℕ
 stateBytes = 32
@@ -36,7 +36,7 @@ seen t = wordAt t 12
 unfoldable pub standing : List ℕ → List ℕ → Standing
 standing s t = at (wordAt t 0) (wordAt t 4) (wordAt t 8) (take (seen t) (drop 16 t)) s
 
--- Traces in parts: how many sections have a count that is known.
+-- How many sections have a count that is known.
 abbrev pub known : ℕ → ℕ → ℕ
 known section left = cond (eqb left 0) (section - 1) section
 
@@ -48,8 +48,8 @@ unfoldable pub allZero : List ℕ → Bool
 allZero [] = true
 allZero (x ∷ l) = eqb x 0 && allZero l
 
--- Traces in parts: does a call leave such a state, in a stream that is not over? In a section, or behind the third; no more than 1,000 events
--- left, and none behind the third; no more in all than 1,000 for each section whose count is known; fewer bytes gathered than complete it; an
+-- Over a slow cable: does a call leave such a state, in a stream that is not over (D133)? In a section, or behind the third; no more than 1,000 events
+-- left, and none behind the third; no more in all than 1,000 for each section whose count is known; fewer bytes gathered than complete the count or the event; an
 -- event's first byte in its place; zeros behind what is gathered. That these are exactly the states that some bytes lead to is proved (`States`).
 abbrev pub ranges : List ℕ → List Bool
 ranges t =
@@ -80,30 +80,31 @@ pub record Call : Type 0 where
 abbrev pub refused : List ℕ → List ℕ → List ℕ → ℕ → Call
 refused s t o r = record { image = s; state = t; text = o; refusal = r; bytes = 0 }
 
--- Traces in parts: a text that does not fit gets 9, and nothing changes; else it stands at the front of o, where the bytes past it stay, the
+-- Over a slow cable: a text that does not fit gets 9, and nothing changes; else it stands at the front of o, where the bytes past it stay, the
 -- stream stands in σ, and the refusal is r.
 unfoldable pub prints : List ℕ → List ℕ → List ℕ → Standing → List ℕ → ℕ → Call
 prints s t o σ text r =
     cond (ltb (length o) (length text)) (refused s t o 9)
     (record { image = σ .image; state = stateOf σ; text = text ++ drop (length text) o; refusal = r; bytes = length text })
 
--- Traces in parts: image and state are of their length.
+-- Over a slow cable: image and state are of their length.
 abbrev pub lengths : List ℕ → List ℕ → Bool
 lengths s t = eqb (length s) imageBytes && eqb (length t) stateBytes
 
--- Traces in parts: what stands against a feeding or a closing: 1 for a length, then 8 where the stream is over, then 1 where no call leaves
--- such a state; 0 is nothing.
+-- Over a slow cable: what stands against a feeding or a closing: 1 for a length, then 8 where the stream is over, by its first word
+-- alone, then 1 where no call leaves such a state; 0 is nothing.
 unfoldable pub against : List ℕ → List ℕ → ℕ
 against s t = cond (lengths s t) (cond (eqb (wordAt t 0) over) 8 (cond (ready t) 0 1)) 1
 
+-- The call, unless r stands against it.
 unfoldable pub unless : ℕ → List ℕ → List ℕ → List ℕ → Call → Call
 unless r s t o c = cond (eqb r 0) c (refused s t o r)
 
--- Traces in parts, the opening: a fresh image, a new state, and the header, whatever the bytes were.
+-- Over a slow cable, the opening: a fresh image, a new state, and the header, whatever the bytes were.
 unfoldable pub opening : List ℕ → List ℕ → List ℕ → Call
 opening s t o = unless (cond (lengths s t) 0 1) s t o (prints s t o opened header 0)
 
--- Traces in parts: what a part prints, and 8 where it has the fault.
+-- Over a slow cable: what a part prints, and 8 where it has the fault.
 unfoldable pub fedCall : List ℕ → List ℕ → List ℕ → List ℕ → Call
 fedCall s t p o =
     let σ = standing s t in
@@ -112,7 +113,7 @@ fedCall s t p o =
 unfoldable pub feeding : List ℕ → List ℕ → List ℕ → List ℕ → Call
 feeding s t p o = unless (against s t) s t o (fedCall s t p o)
 
--- Traces in parts: the closing prints its line, and 8 where the trace is too short; then the stream is over.
+-- Over a slow cable: the closing prints its line, and 8 where the trace is too short; then the stream is over.
 unfoldable pub lastCall : List ℕ → List ℕ → List ℕ → Call
 lastCall s t o = prints s t o (ended s) (lastLine (standing s t)) (cond (eqb (wordAt t 0) behind) 0 8)
 

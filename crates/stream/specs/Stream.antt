@@ -1,4 +1,4 @@
--- Document 02, request e: a trace that arrives in parts, byte by byte: where a stream stands, what one more byte makes of it, of the image and
+-- Document 02, request e, traces that arrive over a slow cable, byte by byte: where a stream stands, what one more byte makes of it, of the image and
 -- of the text, and what any bytes do. What a trace may have and how its lines read is said in the crate `trace`, what a
 -- step does in `model`; the crate `rules` shows both to be the rulebook's.
 use Prim.Native.Nat.{ℕ, _+_, _-_}
@@ -13,7 +13,7 @@ use Rattle.trace.specs.Trace.{mostEvents, countAt, takes, line, header, refused
 
 -- ---- where a stream stands between two bytes
 
--- Traces in parts: it is in section 1, 2 or 3, behind the third (4), or over (5). So many events of the section are `left`: 0 while its count is
+-- Over a slow cable: it is in section 1, 2 or 3, behind the third (4), or over (5). So many events of the section are `left`: 0 while its count is
 -- being read. So many events are complete: `steps`. `gathered` are the bytes that came of a count or an event that is not complete.
 pub record Standing : Type 0 where
   pub section : ℕ
@@ -34,11 +34,11 @@ over = 5
 abbrev pub isOver : Standing → Bool
 isOver σ = eqb (σ .section) over
 
--- Traces in parts: at the opening the first section's count comes, and the image is fresh.
+-- Over a slow cable: at the opening the first section's count comes, and the image is fresh.
 abbrev pub opened : Standing
 opened = at 1 0 0 [] freshImage
 
--- Traces in parts: after a fault or the closing nothing of the reading is kept; the image is.
+-- Over a slow cable: after a fault or the closing nothing of the reading is kept; the image is.
 abbrev pub ended : List ℕ → Standing
 ended s = at over 0 0 [] s
 
@@ -53,7 +53,7 @@ pub record Turn : Type 0 where
 abbrev pub quietly : Standing → Turn
 quietly σ = record { next = σ; text = []; ran = [] }
 
--- Traces in parts: the fault prints the refusal line, and the stream is over.
+-- Over a slow cable: the fault prints the refusal line, and the stream is over.
 abbrev pub fault : Standing → Turn
 fault σ = record { next = ended (σ .image); text = refusedLine; ran = [] }
 
@@ -65,13 +65,13 @@ waits σ g = quietly (at (σ .section) (σ .left) (σ .steps) g (σ .image))
 abbrev pub onward : ℕ → ℕ → ℕ → List ℕ → Standing
 onward k l n s = at (cond (eqb l 0) (k + 1) k) l n [] s
 
--- Traces in parts: the two bytes of a count; the high one is the fault where they say more than 1,000.
+-- Over a slow cable: the two bytes of a count; the high one is the fault where they say more than 1,000.
 unfoldable pub counts : Standing → List ℕ → Turn
 counts σ g =
     cond (ltb (length g) 2) (waits σ g)
     (cond (ltb mostEvents (countAt g 0)) (fault σ) (quietly (onward (σ .section) (countAt g 0) (σ .steps) (σ .image))))
 
--- Traces in parts: the event e is complete: its step, and its line.
+-- Over a slow cable: the event e is complete: its step, and its line.
 unfoldable pub runs : Standing → List ℕ → Turn
 runs σ e =
     record {
@@ -80,11 +80,11 @@ runs σ e =
       ran = e ∷ [];
     }
 
--- Traces in parts: the bytes of an event; the first is the fault where its operation may not stand in the section.
+-- Over a slow cable: the bytes of an event; the first is the fault where its operation may not stand in the section.
 unfoldable pub gathers : Standing → List ℕ → Turn
 gathers σ g = cond (takes (σ .section) (getD g 0 0)) (cond (ltb (length g) eventBytes) (waits σ g) (runs σ g)) (fault σ)
 
--- Traces in parts: behind the third section any byte is the fault; once it is over none does anything.
+-- Over a slow cable: behind the third section any byte is the fault; once it is over none does anything.
 unfoldable pub turn : Standing → ℕ → Turn
 turn σ x =
     let g = σ .gathered ++ (x ∷ []) in
@@ -107,7 +107,7 @@ complete σ (x ∷ l) = turn σ x .ran ++ complete (turn σ x .next) l
 
 -- ---- the closing
 
--- Traces in parts: the end line where the third section is complete; else the trace is too short.
+-- Over a slow cable: the end line where the third section is complete; else the trace is too short, and the refusal line comes.
 unfoldable pub lastLine : Standing → List ℕ
 lastLine σ = cond (eqb (σ .section) behind) (ending (σ .steps)) refusedLine
 

@@ -1,5 +1,6 @@
-// Document 02, request e: a trace that arrives in parts, and the C entry points of it. The crate is an object of its own in the archive, as
-// that of the listing is: beside the entry point of the step it would be a second caller of it.
+// Document 02, request e, traces that arrive over a slow cable: a trace in parts, and its C entry points. The crate is an object of its own in
+// the archive, as the listing's is: in one object with frostsorrel_step it would be a second caller of the step, which would then be inlined
+// in neither (D136).
 ghost use mathlib.Core.Path.{_≡_};
 ghost use mathlib.Core.Bool.{true, cond};
 ghost use mathlib.Core.List.{[]};
@@ -40,7 +41,7 @@ pub struct Taken {
 
 // ---- some bytes
 
-// Traces in parts: the fault prints the refusal line, and nothing is read any more.
+// Over a slow cable: the fault prints the refusal line, and nothing is read any more.
 fn fault(line: &mut [u8]) -> Taken
     requires { ⌜ length (now line) ≡ 16 ⌝ }
     ensures { λ t. ⌜ (t .reader ≡ record { section = over; left = 0; steps = 0; seen = 0 }) × Put (now (line .entry)) 0 refusedLine (now (line .exit)) (t .length) ⌝ }
@@ -122,7 +123,7 @@ fn gather(r: Reader, event: &mut [u8], image: &mut [u8], bytes: &[u8], line: &mu
     }
 }
 
-// How many bytes are taken at once, of those that are there: what an event lacks, else one.
+// How many bytes are taken at once, of those that are there: what an event lacks, or all; while no event is read, one.
 fn at_once(r: Reader, there: usize) -> usize
     requires { ⌜ r .seen ≤ 15 ⌝ }
     ensures { λ n. ⌜ n ≡ atOnce (r .left) (r .seen) there ⌝ }
@@ -137,7 +138,7 @@ fn at_once(r: Reader, there: usize) -> usize
     lacks
 }
 
-// So many bytes. Behind the third section one is the fault; once it is over it does nothing.
+// As many bytes as are taken at once. Behind the third section one is the fault; once it is over it does nothing.
 fn take_some(r: Reader, event: &mut [u8], image: &mut [u8], bytes: &[u8], line: &mut [u8]) -> Taken
     requires { ⌜ Ready (standingBy r (now event) (now image)) × (r .seen + length (now bytes) ≤ 16) × (1 ≤ length (now bytes)) × (r .left ≡ 0 → length (now bytes) ≡ 1) × (length (now event) ≡ 16) × (length (now line) ≡ 16) ⌝ }
     ensures { λ t. ⌜ TookSome (standingBy r (now (event .entry)) (now (image .entry))) (now (bytes .entry)) (now (line .entry)) (now (event .exit)) (now (image .exit)) (now (line .exit)) t ⌝ }
@@ -241,7 +242,7 @@ fn is_zero_from(state: &[u8], at: usize) -> bool
     true
 }
 
-// Traces in parts: does a call leave such a state, in a stream that is not over?
+// Over a slow cable: does a call leave such a state, in a stream that is not over?
 fn is_ready(state: &[u8]) -> bool
     requires { ⌜ length (now state) ≡ stateBytes ⌝ }
     ensures { λ b. ⌜ b ≡ ready (now (state .entry)) ⌝ }
@@ -270,7 +271,7 @@ fn is_ready(state: &[u8]) -> bool
         & is_zero_from(state, 16 + r.seen as usize)
 }
 
-// Traces in parts: what stands against a feeding or a closing; 0 is nothing.
+// Over a slow cable: what stands against a feeding or a closing; 0 is nothing.
 fn against(image: &[u8], state: &[u8]) -> u32
     ensures { λ r. ⌜ r ≡ againstOf (now (image .entry)) (now (state .entry)) ⌝ }
 {
@@ -319,8 +320,8 @@ fn text_length(image: &[u8], state: &[u8], part: &[u8]) -> usize
     p.length
 }
 
-// Does the text of a part fit? A part never has more than 31 bytes more of text than it has itself: where there is room for so many, its length
-// need not be known.
+// Does the text of a part fit? 15 bytes may be gathered, and the refusal line has 16: with 31 bytes more than the part has, any text fits, and its
+// length need not be known.
 fn fits(image: &[u8], state: &[u8], part: &[u8], room: usize) -> bool
     requires { ⌜ (length (now image) ≡ imageBytes) × (length (now state) ≡ stateBytes) × Ready (standing (now image) (now state)) × (seen (now state) ≤ 15) ⌝ }
     ensures { λ b. ⌜ b ≡ leb (length (printed (standing (now (image .entry)) (now (state .entry))) (now (part .entry)))) room ⌝ }
