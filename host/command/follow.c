@@ -40,6 +40,23 @@ struct follow {
 
 enum { FIRST_GATHERED = 16 }; /* behind the words of a state */
 
+/* From 0 on, as trace.h counts them. */
+static int section_of(const uint8_t *state)
+{
+    return (int)frostsorrel_stream_word(state, FROSTSORREL_STREAM_SECTION) - 1;
+}
+
+static uint32_t events_left(const uint8_t *state)
+{
+    return frostsorrel_stream_word(state, FROSTSORREL_STREAM_LEFT);
+}
+
+/* The number of the event that comes next, or of which a part has come. */
+static unsigned long next_event(const uint8_t *state)
+{
+    return wide(frostsorrel_stream_word(state, FROSTSORREL_STREAM_STEPS) + 1);
+}
+
 static int is_typed(uint8_t byte)
 {
     return isprint(byte) || isspace(byte);
@@ -48,7 +65,7 @@ static int is_typed(uint8_t byte)
 static void say_count(struct text *t, const uint8_t *state, size_t at, uint8_t high)
 {
     uint8_t low = state[FIRST_GATHERED];
-    int section = (int)frostsorrel_stream_word(state, FROSTSORREL_STREAM_SECTION) - 1;
+    int section = section_of(state);
 
     say_over_counted(t, section, low | high << 8, at - 1);
     if (section == 0 && is_typed(low) && is_typed(high)) /* a text gets no further than this */
@@ -58,29 +75,29 @@ static void say_count(struct text *t, const uint8_t *state, size_t at, uint8_t h
 /* The state is that before the byte at fault, which is byte `at` of the trace. */
 static void say_fault(struct text *t, const uint8_t *state, size_t at, uint8_t byte)
 {
-    uint32_t section = frostsorrel_stream_word(state, FROSTSORREL_STREAM_SECTION);
+    int section = section_of(state);
 
-    if (section > SECTIONS)
+    if (section >= SECTIONS)
         say_too_long(t, at);
-    else if (frostsorrel_stream_word(state, FROSTSORREL_STREAM_LEFT) == 0)
+    else if (events_left(state) == 0)
         say_count(t, state, at, byte);
     else
-        text_add(t, "event %lu, at byte %lu, is operation %d; section %lu holds %s",
-                 wide(frostsorrel_stream_word(state, FROSTSORREL_STREAM_STEPS) + 1), (unsigned long)at, byte, wide(section),
-                 held_in((int)section - 1));
+        text_add(t, "event %lu, at byte %lu, is operation %d; section %d holds %s", next_event(state),
+                 (unsigned long)at, byte, section + 1, held_in(section));
 }
 
 static void say_too_short(struct text *t, const uint8_t *state, size_t length)
 {
-    uint32_t section = frostsorrel_stream_word(state, FROSTSORREL_STREAM_SECTION), held = frostsorrel_stream_word(state, FROSTSORREL_STREAM_GATHERED);
-    uint32_t missing = FROSTSORREL_EVENT_BYTES * frostsorrel_stream_word(state, FROSTSORREL_STREAM_LEFT) - held;
+    uint32_t gathered = frostsorrel_stream_word(state, FROSTSORREL_STREAM_GATHERED);
+    uint32_t missing = FROSTSORREL_EVENT_BYTES * events_left(state) - gathered;
+    int section = section_of(state);
 
-    if (frostsorrel_stream_word(state, FROSTSORREL_STREAM_LEFT) == 0)
-        say_no_count(t, (int)section - 1, length);
+    if (events_left(state) == 0)
+        say_no_count(t, section, length);
     else
-        text_add(t, "too short: the file ends at byte %lu, %s event %lu; section %lu (%s) takes %lu %s more",
-                 (unsigned long)length, held ? "in the middle of" : "before", wide(frostsorrel_stream_word(state, FROSTSORREL_STREAM_STEPS) + 1),
-                 wide(section), held_in((int)section - 1), wide(missing), missing == 1 ? "byte" : "bytes");
+        text_add(t, "too short: the file ends at byte %lu, %s event %lu; section %d (%s) takes %lu %s more",
+                 (unsigned long)length, gathered ? "in the middle of" : "before", next_event(state), section + 1,
+                 held_in(section), wide(missing), missing == 1 ? "byte" : "bytes");
 }
 
 /*
