@@ -73,16 +73,10 @@ struct told {
     double best; /* nanoseconds an event */
 };
 
-typedef uint64_t edge_function(uint8_t *, size_t, uint8_t *, size_t, uint8_t *, size_t);
-typedef uint64_t feed_function(uint8_t *, size_t, uint8_t *, size_t, const uint8_t *, size_t, uint8_t *, size_t);
-
-struct calls {
-    edge_function *open, *close;
-    feed_function *feed;
-};
-
-static const struct calls our_calls = {frostsorrel_stream_open, frostsorrel_stream_close, frostsorrel_stream_feed};
-static const struct calls their_calls = {reference_stream_open, reference_stream_close, reference_stream_feed};
+static const struct stream_calls our_calls = {frostsorrel_stream_open, frostsorrel_stream_feed,
+                                              frostsorrel_stream_close};
+static const struct stream_calls their_calls = {reference_stream_open, reference_stream_feed,
+                                                reference_stream_close};
 
 typedef uint64_t step_function(uint8_t *, size_t, const uint8_t *, size_t);
 typedef void image_function(uint8_t *image);
@@ -388,7 +382,7 @@ static double measure_pairs(const char *name, pairs_function *draw_pairs, list_f
     return print_ratio(name, ours.best, theirs.best);
 }
 
-static void feed_trace(const struct feeds *f, struct told *t, size_t i, const struct calls *by)
+static void feed_trace(const struct feeds *f, struct told *t, size_t i, const struct stream_calls *by)
 {
     uint8_t *image = t->images[i], *state = t->states[i], *text = t->texts[i];
     const uint8_t *at = f->traces[i].bytes;
@@ -404,7 +398,7 @@ static void feed_trace(const struct feeds *f, struct told *t, size_t i, const st
     t->lengths[i] = (size_t)(text - t->texts[i]) + (size_t)frostsorrel_answer_count(t->last[i]);
 }
 
-static void time_feeds(const struct feeds *f, struct told *t, const struct calls *by)
+static void time_feeds(const struct feeds *f, struct told *t, const struct stream_calls *by)
 {
     double began;
 
@@ -460,7 +454,7 @@ static double measure_feeds(const char *name, part_function *part, int tight, un
 /* ---- the stack */
 
 static struct {
-    const struct calls *by;
+    const struct stream_calls *by;
     uint8_t image[BYTES], state[FROSTSORREL_STREAM_BYTES], part[6 + EVENT_BYTES], text[64];
     size_t room;
 } on_stack;
@@ -484,7 +478,7 @@ __attribute__((noinline)) static void close_on_stack(void)
 }
 
 /* A part with one event of the third section, in a room that never gets a 9, and in one where it is tried first. */
-static void print_stack(const char *who, const struct calls *by)
+static void print_stack(const char *who, const struct stream_calls *by)
 {
     size_t opening, roomy, tight, closing;
 

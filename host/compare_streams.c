@@ -23,8 +23,15 @@
 #define LONGEST_FILE (SECTIONS * (2 + MANY * EVENT_BYTES) + 32)
 #define LONGEST_TEXT (LONGEST_FILE + 64)
 
-enum { BEHIND = 4, OVER = 5 }; /* word 0 of a state, after the sections */
-enum { SECTION, MISSING, COMPLETE, THERE, GATHERED }; /* the words of a state, and the first of the gathered bytes */
+/* The words of a state, what stands in the first where it is no section, and the first byte behind them. */
+enum {
+    SECTION = FROSTSORREL_STREAM_SECTION,
+    LEFT = FROSTSORREL_STREAM_LEFT,
+    STEPS = FROSTSORREL_STREAM_STEPS,
+    GATHERED = FROSTSORREL_STREAM_GATHERED
+};
+enum { BEHIND = FROSTSORREL_STREAM_BEHIND, OVER = FROSTSORREL_STREAM_OVER };
+enum { FIRST_GATHERED = 16 };
 
 /* ---- what was met: all of it, in a long run */
 
@@ -36,8 +43,8 @@ enum met {
     FITS, BYTE_SHORT, NO_BYTE, USUAL, OPEN_SHORT, CLOSE_SHORT, FAULT_SHORT, AGAIN,
     FED_AFTER_FAULT, CLOSED_AFTER_FAULT, FED_AFTER_CLOSE, CLOSED_AFTER_CLOSE, OPENED_AFTER, OVER_AND_RUBBISH,
     IMAGE_LENGTH, STATE_LENGTH, LENGTH_BEFORE_OVER, STATE_BEFORE_ROOM,
-    NO_SECTION, FAR_SECTION, MISSING_MANY, EVENT_TOO_MANY, SUM_WRAPS, FIRST_BYTE, PIECE_WHOLE, FAR_THERE,
-    BEHIND_MISSING, BEHIND_THERE, BYTE_BEHIND, ANY_WORDS,
+    NO_SECTION, FAR_SECTION, LEFT_MANY, EVENT_TOO_MANY, SUM_WRAPS, FIRST_BYTE, PIECE_WHOLE, GATHERED_FAR,
+    LEFT_BEHIND, GATHERED_BEHIND, BYTE_BEHIND, ANY_WORDS,
     MOST_AT_COUNT, MOST_AT_EVENT, MOST_AT_END
 };
 
@@ -87,14 +94,14 @@ static struct tally tallies[] = {
     [STATE_BEFORE_ROOM] = {"refused", "for the state, with no room", 0},
     [NO_SECTION] = {"states", "of section 0", 0},
     [FAR_SECTION] = {"states", "of a section above 5", 0},
-    [MISSING_MANY] = {"states", "with too many events to come", 0},
+    [LEFT_MANY] = {"states", "with too many events to come", 0},
     [EVENT_TOO_MANY] = {"states", "with an event too many", 0},
     [SUM_WRAPS] = {"states", "with a sum past 32 bits", 0},
     [FIRST_BYTE] = {"states", "with a misplaced event", 0},
     [PIECE_WHOLE] = {"states", "with a whole count or event", 0},
-    [FAR_THERE] = {"states", "with more bytes than that", 0},
-    [BEHIND_MISSING] = {"states", "with events to come in 4", 0},
-    [BEHIND_THERE] = {"states", "with bytes in 4", 0},
+    [GATHERED_FAR] = {"states", "with more bytes than that", 0},
+    [LEFT_BEHIND] = {"states", "with events to come in 4", 0},
+    [GATHERED_BEHIND] = {"states", "with bytes in 4", 0},
     [BYTE_BEHIND] = {"states", "with a byte behind those there", 0},
     [ANY_WORDS] = {"states", "of any words", 0},
     [MOST_AT_COUNT] = {"states taken", "with the most events before a count", 0},
@@ -129,16 +136,9 @@ struct effect {
     uint64_t answer;
 };
 
-typedef uint64_t edge_function(uint8_t *, size_t, uint8_t *, size_t, uint8_t *, size_t);
-typedef uint64_t feed_function(uint8_t *, size_t, uint8_t *, size_t, const uint8_t *, size_t, uint8_t *, size_t);
-
-struct side {
-    edge_function *open, *close;
-    feed_function *feed;
-};
-
-static const struct side ours = {frostsorrel_stream_open, frostsorrel_stream_close, frostsorrel_stream_feed};
-static const struct side theirs = {reference_stream_open, reference_stream_close, reference_stream_feed};
+static const struct stream_calls ours = {frostsorrel_stream_open, frostsorrel_stream_feed,
+                                         frostsorrel_stream_close};
+static const struct stream_calls theirs = {reference_stream_open, reference_stream_feed, reference_stream_close};
 
 static uint8_t lying[LONGEST_TEXT + 2 * GUARD]; /* what stands in the text before a call */
 
@@ -149,7 +149,7 @@ static void lend(uint8_t *arena, const uint8_t *bytes, size_t len)
     memset(arena + GUARD + len, 0xA5, GUARD);
 }
 
-static uint64_t answer_of(const struct call *c, const struct side *side, struct effect *e)
+static uint64_t answer_of(const struct call *c, const struct stream_calls *side, struct effect *e)
 {
     uint8_t *image = e->image + GUARD, *state = e->state + GUARD, *text = e->text + GUARD;
 
@@ -160,7 +160,7 @@ static uint64_t answer_of(const struct call *c, const struct side *side, struct 
                                                                c->text_len);
 }
 
-static void put_effect(struct effect *e, const struct call *c, const struct side *side)
+static void put_effect(struct effect *e, const struct call *c, const struct stream_calls *side)
 {
     lend(e->image, c->image, c->image_len);
     lend(e->state, c->state, c->state_len);
@@ -349,7 +349,7 @@ static uint32_t most_events(const uint8_t *state)
 {
     uint32_t section = word_of(state, SECTION);
 
-    return LIMIT * (word_of(state, MISSING) == 0 ? section - 1 : section);
+    return LIMIT * (word_of(state, LEFT) == 0 ? section - 1 : section);
 }
 
 /* Often at one of the ends. */
@@ -377,17 +377,17 @@ static uint8_t draw_operation(uint32_t section)
 /* Of a section whose events come, or whose count does; behind the third one there is nothing to come. */
 static void draw_state(uint8_t *state, uint32_t section, int events)
 {
-    uint32_t there;
+    uint32_t gathered;
 
     memset(state, 0, STATE_BYTES);
     put(state, SECTION, section);
-    put(state, MISSING, events ? 1 + draw_up_to(LIMIT - 1) : 0);
-    put(state, COMPLETE, draw_up_to(most_events(state) - word_of(state, MISSING)));
-    there = section == BEHIND ? 0 : draw(events ? EVENT_BYTES : 2);
-    put(state, THERE, there);
-    draw_bytes(state + 4 * GATHERED, there);
-    if (events && there > 0)
-        state[4 * GATHERED] = draw_operation(section);
+    put(state, LEFT, events ? 1 + draw_up_to(LIMIT - 1) : 0);
+    put(state, STEPS, draw_up_to(most_events(state) - word_of(state, LEFT)));
+    gathered = section == BEHIND ? 0 : draw(events ? EVENT_BYTES : 2);
+    put(state, GATHERED, gathered);
+    draw_bytes(state + FIRST_GATHERED, gathered);
+    if (events && gathered > 0)
+        state[FIRST_GATHERED] = draw_operation(section);
 }
 
 static void draw_any_state(uint8_t *state)
@@ -402,37 +402,37 @@ static void put_event_too_many(uint8_t *state)
     uint32_t more = draw(4) ? 1 : 1 + draw(1u << 16);
 
     draw_any_state(state);
-    put(state, COMPLETE, most_events(state) - word_of(state, MISSING) + more);
+    put(state, STEPS, most_events(state) - word_of(state, LEFT) + more);
 }
 
-/* Together with the events that are missing it is small again. */
+/* Together with the events that are left it is small again. */
 static void put_wrapping_sum(uint8_t *state)
 {
     draw_state(state, 1 + draw(3), 1);
-    put(state, COMPLETE, 0xFFFFFFFF - draw(word_of(state, MISSING)));
+    put(state, STEPS, 0xFFFFFFFF - draw(word_of(state, LEFT)));
 }
 
 /* Not too many of all sections, but for one. */
-static void put_missing_many(uint8_t *state)
+static void put_left_many(uint8_t *state)
 {
     uint32_t section = 2 + draw(2), more = draw(2) ? 1 : 1 + draw(LIMIT * (section - 1));
 
     draw_state(state, section, 1);
-    put(state, MISSING, LIMIT + more);
-    put(state, COMPLETE, draw_up_to(LIMIT * (section - 1) - more));
+    put(state, LEFT, LIMIT + more);
+    put(state, STEPS, draw_up_to(LIMIT * (section - 1) - more));
 }
 
 static void put_misplaced_byte(uint8_t *state)
 {
-    uint32_t section = 1 + draw(2), there = 1 + draw(EVENT_BYTES - 1);
+    uint32_t section = 1 + draw(2), gathered = 1 + draw(EVENT_BYTES - 1);
 
     draw_state(state, section, 1);
-    memset(state + 4 * GATHERED, 0, EVENT_BYTES);
-    put(state, THERE, there);
-    draw_bytes(state + 4 * GATHERED, there);
+    memset(state + FIRST_GATHERED, 0, EVENT_BYTES);
+    put(state, GATHERED, gathered);
+    draw_bytes(state + FIRST_GATHERED, gathered);
     do
-        state[4 * GATHERED] = (uint8_t)draw(draw(2) ? 11 : 256);
-    while (has_place((int)section - 1, state[4 * GATHERED]));
+        state[FIRST_GATHERED] = (uint8_t)draw(draw(2) ? 11 : 256);
+    while (has_place((int)section - 1, state[FIRST_GATHERED]));
 }
 
 static void put_whole_piece(uint8_t *state)
@@ -440,25 +440,25 @@ static void put_whole_piece(uint8_t *state)
     uint32_t events = draw(2);
 
     draw_state(state, 1 + draw(3), (int)events);
-    if (events && word_of(state, THERE) == 0)
-        state[4 * GATHERED] = draw_operation(word_of(state, SECTION));
-    put(state, THERE, events ? EVENT_BYTES : 2);
+    if (events && word_of(state, GATHERED) == 0)
+        state[FIRST_GATHERED] = draw_operation(word_of(state, SECTION));
+    put(state, GATHERED, events ? EVENT_BYTES : 2);
 }
 
 static void put_byte_behind(uint8_t *state)
 {
-    uint32_t there, at;
+    uint32_t gathered, at;
 
     draw_any_state(state);
-    there = word_of(state, THERE);
-    at = there + draw(EVENT_BYTES - there);
-    state[4 * GATHERED + at] = (uint8_t)(1 + draw(255));
+    gathered = word_of(state, GATHERED);
+    at = gathered + draw(EVENT_BYTES - gathered);
+    state[FIRST_GATHERED + at] = (uint8_t)(1 + draw(255));
 }
 
 static void put_behind(uint8_t *state, int word)
 {
     draw_state(state, BEHIND, 0);
-    put(state, COMPLETE, draw(LIMIT));
+    put(state, STEPS, draw(LIMIT));
     put(state, word, draw(2) ? 1 : 1 + draw(LIMIT));
 }
 
@@ -469,14 +469,14 @@ static void damage(uint8_t *state, enum met reason)
     switch (reason) {
     case NO_SECTION: put(state, SECTION, 0); break;
     case FAR_SECTION: put(state, SECTION, draw(2) ? 6 : OVER + 1 + draw(0xFFFFFFF0)); break;
-    case MISSING_MANY: put_missing_many(state); break;
+    case LEFT_MANY: put_left_many(state); break;
     case EVENT_TOO_MANY: put_event_too_many(state); break;
     case SUM_WRAPS: put_wrapping_sum(state); break;
     case FIRST_BYTE: put_misplaced_byte(state); break;
     case PIECE_WHOLE: put_whole_piece(state); break;
-    case FAR_THERE: put(state, THERE, EVENT_BYTES + 1 + draw(0xFFFFFFEE)); break;
-    case BEHIND_MISSING: put_behind(state, MISSING); break;
-    case BEHIND_THERE: put_behind(state, THERE); break;
+    case GATHERED_FAR: put(state, GATHERED, EVENT_BYTES + 1 + draw(0xFFFFFFEE)); break;
+    case LEFT_BEHIND: put_behind(state, LEFT); break;
+    case GATHERED_BEHIND: put_behind(state, GATHERED); break;
     case BYTE_BEHIND: put_byte_behind(state); break;
     case OVER_AND_RUBBISH:
         draw_bytes(state, STATE_BYTES);
@@ -521,8 +521,8 @@ static void try_lengths(unsigned long number)
 static void try_state(unsigned long number)
 {
     static const enum met reasons[] = {
-        NO_SECTION, FAR_SECTION, MISSING_MANY, EVENT_TOO_MANY, SUM_WRAPS, FIRST_BYTE, PIECE_WHOLE, FAR_THERE,
-        BEHIND_MISSING, BEHIND_THERE, BYTE_BEHIND, ANY_WORDS, OVER_AND_RUBBISH};
+        NO_SECTION, FAR_SECTION, LEFT_MANY, EVENT_TOO_MANY, SUM_WRAPS, FIRST_BYTE, PIECE_WHOLE, GATHERED_FAR,
+        LEFT_BEHIND, GATHERED_BEHIND, BYTE_BEHIND, ANY_WORDS, OVER_AND_RUBBISH};
     static struct effect e;
     enum met reason = reasons[draw(sizeof reasons / sizeof reasons[0])];
     uint32_t wanted = reason == OVER_AND_RUBBISH ? FROSTSORREL_BAD_TRACE : FROSTSORREL_BAD_IMAGE;
@@ -785,18 +785,18 @@ static int has_fault_before_the_last(const struct call *c)
 static void count_feeding(const struct call *before, unsigned lines)
 {
     const uint8_t *state = next.state;
-    int fault = is_over(), reads_count = word_of(state, MISSING) == 0, there = word_of(state, THERE) > 0;
+    int fault = is_over(), reads_count = word_of(state, LEFT) == 0, gathered = word_of(state, GATHERED) > 0;
 
     met(PART_NONE, before->part_len == 0);
     met(PART_BYTE, before->part_len == 1);
-    met(PART_IN_COUNT, !fault && reads_count && there);
-    met(PART_IN_EVENT, !fault && !reads_count && there);
+    met(PART_IN_COUNT, !fault && reads_count && gathered);
+    met(PART_IN_EVENT, !fault && !reads_count && gathered);
     met(PART_EVENTS, !fault && lines > 1);
     met(PART_SECTIONS, !fault && word_of(state, SECTION) > word_of(before->state, SECTION));
     met(LINES_AND_FAULT, fault && lines > 1);
     met(FAULT_ALONE, fault && lines == 1);
     met(FAULT_NOT_LAST, fault && has_fault_before_the_last(before));
-    met(HIGH_NUMBER, !fault && lines > 0 && word_of(state, COMPLETE) >= 1000);
+    met(HIGH_NUMBER, !fault && lines > 0 && word_of(state, STEPS) >= 1000);
 }
 
 static void feed(unsigned long number, const uint8_t *part, size_t len)
@@ -876,14 +876,14 @@ static void stream_file(unsigned long number)
 /* What completes the piece that is being read. Answers how many bytes. */
 static size_t draw_rest(uint8_t *bytes, const uint8_t *state)
 {
-    uint32_t there = word_of(state, THERE), lacking;
+    uint32_t gathered = word_of(state, GATHERED), lacking;
 
     if (word_of(state, SECTION) == BEHIND)
         return 0;
-    lacking = (word_of(state, MISSING) == 0 ? 2 : EVENT_BYTES) - there;
+    lacking = (word_of(state, LEFT) == 0 ? 2 : EVENT_BYTES) - gathered;
     for (uint32_t i = 0; i < lacking; i++)
         bytes[i] = (uint8_t)draw(draw(3) ? 3 : 256);
-    if (there == 0 && word_of(state, MISSING) > 0)
+    if (gathered == 0 && word_of(state, LEFT) > 0)
         bytes[0] = draw_operation(word_of(state, SECTION));
     return lacking;
 }
@@ -906,11 +906,11 @@ static size_t draw_continuation(uint8_t *bytes, const struct call *c)
 
 static void count_most_events(const uint8_t *state)
 {
-    uint32_t events = word_of(state, COMPLETE) + word_of(state, MISSING), section = word_of(state, SECTION);
+    uint32_t events = word_of(state, STEPS) + word_of(state, LEFT), section = word_of(state, SECTION);
     int most = events == most_events(state) && last_refusal != FROSTSORREL_BAD_IMAGE;
 
-    met(MOST_AT_COUNT, most && section > 1 && section < BEHIND && word_of(state, MISSING) == 0);
-    met(MOST_AT_EVENT, most && word_of(state, MISSING) > 0);
+    met(MOST_AT_COUNT, most && section > 1 && section < BEHIND && word_of(state, LEFT) == 0);
+    met(MOST_AT_EVENT, most && word_of(state, LEFT) > 0);
     met(MOST_AT_END, most && section == BEHIND);
 }
 

@@ -25,6 +25,13 @@ uint64_t reference_stream_feed(uint8_t *image, size_t image_len, uint8_t *state,
 uint64_t reference_stream_close(uint8_t *image, size_t image_len, uint8_t *state, size_t state_len,
                                 uint8_t *text, size_t text_len);
 
+/* The three calls of a stream, as one side makes them. */
+struct stream_calls {
+    uint64_t (*open)(uint8_t *, size_t, uint8_t *, size_t, uint8_t *, size_t);
+    uint64_t (*feed)(uint8_t *, size_t, uint8_t *, size_t, const uint8_t *, size_t, uint8_t *, size_t);
+    uint64_t (*close)(uint8_t *, size_t, uint8_t *, size_t, uint8_t *, size_t);
+};
+
 /* The signature of comparing and explaining: two things to read are lent, and bytes for a list. */
 typedef uint64_t list_function(const uint8_t *, size_t, const uint8_t *, size_t, uint8_t *, size_t);
 

@@ -250,6 +250,29 @@ static void lines(void)
     same_number("its mode", frostsorrel_line_bit(list, 2), FROSTSORREL_IN_BUS_OFF);
 }
 
+/* ---- the state of a stream, by hand: 4 of section 2 left, 1,500 complete, 3 bytes of the next, options */
+
+static void stream_words(void)
+{
+    static const uint8_t state[FROSTSORREL_STREAM_BYTES] = {
+        2, 0, 0, 0, 4, 0, 0, 0, 0xDC, 5, 0, 0, 3, 0, 0, 0,
+        9, 0, 0, 0, 0, 0, 0, 0, 0,    0, 0, 0, 0, 0, 0, 0,
+    };
+    static const uint8_t far[FROSTSORREL_STREAM_BYTES] = {5, 0, 0, 0x80};
+
+    same_number("the section", frostsorrel_stream_word(state, FROSTSORREL_STREAM_SECTION), 2);
+    same_number("the events left", frostsorrel_stream_word(state, FROSTSORREL_STREAM_LEFT), 4);
+    same_number("the steps", frostsorrel_stream_word(state, FROSTSORREL_STREAM_STEPS), 1500);
+    same_number("the bytes gathered", frostsorrel_stream_word(state, FROSTSORREL_STREAM_GATHERED), 3);
+    same_number("a word's top bit", frostsorrel_stream_word(far, FROSTSORREL_STREAM_SECTION), 0x80000005);
+    same_number("word 0", FROSTSORREL_STREAM_SECTION, 0);
+    same_number("word 1", FROSTSORREL_STREAM_LEFT, 1);
+    same_number("word 2", FROSTSORREL_STREAM_STEPS, 2);
+    same_number("word 3", FROSTSORREL_STREAM_GATHERED, 3);
+    same_number("behind the third section", FROSTSORREL_STREAM_BEHIND, 4);
+    same_number("over", FROSTSORREL_STREAM_OVER, 5);
+}
+
 /* By the numbers of document 02; no mode has the number that says bus off. */
 static void reasons(void)
 {
@@ -379,6 +402,7 @@ int main(int argc, char **argv)
     data_bytes();
     entries();
     lines();
+    stream_words();
     reasons();
     answers();
     bits();
