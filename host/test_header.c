@@ -67,6 +67,7 @@ static void sizes(void)
     same_number("what an opening writes", FROSTSORREL_STREAM_OPEN_BYTES, strlen(header));
     same_number("room for a closing", FROSTSORREL_STREAM_CLOSE_BYTES, strlen(refusal));
     check(strlen(end) <= FROSTSORREL_STREAM_CLOSE_BYTES, "room for the end line");
+    same_number("room for a feeding beside its part", FROSTSORREL_STREAM_FEED_BYTES, 15 + strlen(refusal));
     check(lines_and_refusal_fit(), "room for a feeding");
     same_number("an entry", FROSTSORREL_ENTRY_BYTES, 4 + 4 + 4);
     same_number("room for any list of differences", FROSTSORREL_DIFFERENCE_BYTES,

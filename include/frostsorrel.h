@@ -325,11 +325,11 @@ uint64_t frostsorrel_listing(const uint8_t *trace, size_t trace_len, uint8_t *te
  *   frostsorrel_stream_close   writes `end` and how many events there were; or, where the trace is too short,
  *                              `trace refused 8`
  *
- * Each line ends in a line feed. The fault is the first byte that no well-formed trace could have there: the
- * high byte of a count above 1,000; the first byte of an event whose operation may not stand in its section
- * (1 in the first, 0 and 9 in the second, any in the third); the first byte behind the third section. The
- * image then has what the events complete before it did, and no byte behind it is looked at. After a fault,
- * and after a closing, the stream is over.
+ * Each line ends in a line feed. The fault is the byte with which a file stops being the front of a
+ * well-formed trace: the high byte of a count above 1,000; the first byte of an event whose operation may not
+ * stand in its section (1 in the first, 0 and 9 in the second, any in the third); the first byte behind the
+ * third section. The image stays as the events before it have left it, and no byte behind it is looked at.
+ * After a fault, and after a closing, the stream is over.
  *
  * The first line that applies decides:
  *
