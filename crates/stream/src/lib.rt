@@ -2,15 +2,15 @@
 // the archive, as the listing's is: in one object with frostsorrel_step it would be a second caller of the step, which would then be inlined
 // in neither (D136).
 ghost use mathlib.Core.Path.{_≡_};
-ghost use mathlib.Core.Bool.{true, cond};
+ghost use mathlib.Core.Bool.{cond};
 ghost use mathlib.Core.List.{[]};
-ghost use Prim.Native.Nat.{_+_, _<_, _≤_};
+ghost use Prim.Native.Nat.{_+_, _≤_};
 ghost use lib.Dec.{eqb, leb};
 ghost use lib.ListN.{length, drop};
 ghost use Rattle.texts.specs.Text.{Put};
 ghost use Rattle.registers.specs.Block.{imageBytes};
 ghost use Rattle.trace.specs.Trace.{header, refusedLine};
-ghost use Rattle.stream.specs.Stream.{at, behind, over, opened, printed, lastLine};
+ghost use Rattle.stream.specs.Stream.{at, over, opened, printed, lastLine};
 ghost use Rattle.stream.specs.Calls.{stateBytes, stateOf, seen, standing, allZero, ready, against as againstOf, prints, fedCall, lastCall, Leaves, OpenCall, FeedCall, CloseCall};
 ghost use Rattle.stream.specs.Terms.{standingBy, readerOf, Ready, Counts, TookSome, atOnce, Fed, Taking, Added};
 use texts::put_text;
