@@ -343,9 +343,9 @@ uint64_t frostsorrel_listing(const uint8_t *trace, size_t trace_len, uint8_t *te
  * An answer has the refusal, mailbox 32, and in the count how many bytes were written to the front of `text`;
  * every byte of `text` behind them stays. The first four write nothing, and change neither image nor state: a
  * call that got 9 can be made again with a larger `text`. Where none of them applies, a part of length 0
- * answers refusal 0, writes nothing and changes nothing, and a closing changes no byte of the image. An image
- * of 640 bytes that is not good is no refusal of the call: each line says 1, as the step does. Image, state,
- * `part` and `text` may not overlap.
+ * answers refusal 0, writes nothing and changes nothing, and a closing changes no byte of the image. The image
+ * need not be good: where it is not, the calls go on, and every line says 1. Image, state, `part` and `text`
+ * may not overlap.
  *
  * Room that never gets a 9: 24 bytes for an opening, part_len + 31 for a feeding (no feeding needs more than
  * 39,016), 16 for a closing. With that room a feeding goes over the part once. With less it first tries the
@@ -362,7 +362,7 @@ uint64_t frostsorrel_listing(const uint8_t *trace, size_t trace_len, uint8_t *te
  *   FROSTSORREL_STREAM_GATHERED   how many bytes are there of a count or an event that is not complete; 0 in 5
  *   then                          those bytes, the others 0
  *
- * With its last event, or with a count of 0, a section is left: the next one's count is being read.
+ * With its last event, or with a count of 0, a section is left at once, for the next one's count or for 4.
  *
  * No call leaves a state in another section than 1 to 5; with more events, complete or not, than 1,000 for
  * each section whose count is known; with more than 1,000 left; with an event's bytes whose first may not
