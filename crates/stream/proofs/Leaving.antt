@@ -2,25 +2,24 @@
 use Prim.Native.Nat.{ℕ, _<_, _≤_}
 use mathlib.Core.Path.{_≡_, refl, sym, _∙_, ap, ap₂, subst}
 use mathlib.Core.Bool.{Bool, true, false, cond, _&&_}
-use mathlib.Core.List.{List, []}
+use mathlib.Core.List.{List, [], _++_}
 use mathlib.Core.Logic.{_≢_}
 use native.Mathlib.Omega.{arith}
 use lib.Dec.{eqb, leb}
-use lib.ListN.{length, take}
+use lib.ListN.{length, take, drop}
 use borrow.Author.Tests.{eqb-true, eq-eqb, ne-eqb, lt-ltb, le-ltb, leb-true, leb-false}
 use Rattle.words.proofs.Bytes.{Bytes}
 use Rattle.answers.specs.Answer.{noMailbox, packed, Promise}
 use Rattle.fresh.specs.Fresh.{fresh}
 use Rattle.texts.specs.Text.{Put}
 use Rattle.texts.proofs.Writing.{at-front, front-of}
-use Rattle.trace.specs.Trace.{header, refusedLine, ending}
-use Rattle.trace.proofs.Bound.{ending-most}
+use Rattle.trace.specs.Trace.{header}
 use Rattle.stream.specs.declared.Reader.{Reader}
 use Rattle.stream.specs.declared.Taken.{Taken as Tally}
 use Rattle.stream.specs.Stream.{Standing, at, behind, over, opened, ended, fed, printed, lastLine}
 use Rattle.stream.specs.Calls.{stateOf, standing, seen, Call, refused, prints, unless, opening, fedCall, lastCall, Leaves}
 use Rattle.stream.specs.Terms.{standingBy, readerOf, Ready, Taking}
-use Rattle.stream.proofs.Ready.{steps-few, printed-most}
+use Rattle.stream.proofs.Ready.{steps-few, last-short, printed-most}
 use Rattle.stream.proofs.State.{ready-standing, seen-few}
 use Rattle.stream.proofs.Judging.{Taken}
 
@@ -32,27 +31,43 @@ leaves-as {x = x} {y = y} {z = z} {a = a} h l = subst (λ (c : Call). Leaves c x
 refused-leaves : {s t o : List ℕ} {r a : ℕ} → a ≡ packed r noMailbox 0 → Leaves (refused s t o r) s t o a
 refused-leaves h = record { image = refl; state = refl; text = refl; answered = h }
 
-module _ (s t o : List ℕ) (σ : Standing) (u : List ℕ) (r : ℕ) {a : ℕ} where
-  -- a text that does not fit, and one that does
-  pub no-room : length o < length u → a ≡ packed 9 noMailbox 0 → Leaves (prints s t o σ u r) s t o a
-  unfolding prints
-  no-room h p = rw (lt-ltb (length o) (length u) h) (refused-leaves p)
+module _ (s t o : List ℕ) (σ : Standing) (u : List ℕ) (r : ℕ) where
+  abbrev pub there : Call
+  there = record { image = σ .image; state = stateOf σ; text = u ++ drop (length u) o; refusal = r; bytes = length u }
 
-  pub printed-there : {x y z : List ℕ} {n : ℕ} → length u ≤ length o → x ≡ σ .image → y ≡ stateOf σ → Put o 0 u z n → a ≡ packed r noMailbox (length u)
-      → Leaves (prints s t o σ u r) x y z a
+  -- a text that fits, and one that does not
+  pub prints-fits : length u ≤ length o → prints s t o σ u r ≡ there
   unfolding prints
-  printed-there h i j k p = rw (le-ltb (length o) (length u) h) (record { image = i; state = j; text = at-front h k; answered = p })
+  prints-fits h = rw (le-ltb (length o) (length u) h)
+
+  pub prints-short : length o < length u → prints s t o σ u r ≡ refused s t o 9
+  unfolding prints
+  prints-short h = rw (lt-ltb (length o) (length u) h)
+
+  pub no-room : {a : ℕ} → length o < length u → a ≡ packed 9 noMailbox 0 → Leaves (prints s t o σ u r) s t o a
+  no-room h p = leaves-as (prints-short h) (refused-leaves p)
+
+  pub printed-there : {x y z : List ℕ} {n a : ℕ} → length u ≤ length o → x ≡ σ .image → y ≡ stateOf σ → Put o 0 u z n → a ≡ packed r noMailbox (length u)
+      → Leaves (prints s t o σ u r) x y z a
+  printed-there h i j k p = leaves-as (prints-fits h) (record { image = i; state = j; text = at-front h k; answered = p })
 
 -- ---- what stands against a call
 
+module _ (r : ℕ) (s t o : List ℕ) (c : Call) where
+  pub unless-none : r ≡ 0 → unless r s t o c ≡ c
+  unfolding unless
+  unless-none h = rw (eq-eqb r 0 h)
+
+  pub unless-some : r ≢ 0 → unless r s t o c ≡ refused s t o r
+  unfolding unless
+  unless-some h = rw (ne-eqb r 0 h)
+
 module _ (s t o : List ℕ) (c : Call) (r : ℕ) where
   pub stopped : {n a : ℕ} → n ≡ r → n ≢ 0 → a ≡ packed n noMailbox 0 → Leaves (unless r s t o c) s t o a
-  unfolding unless
-  stopped h z p = rw (ne-eqb r 0 (λ e. z (h ∙ e))) (refused-leaves (p ∙ ap (λ (k : ℕ). packed k noMailbox 0) h))
+  stopped h z p = leaves-as (unless-some r s t o c (λ e. z (h ∙ e))) (refused-leaves (p ∙ ap (λ (k : ℕ). packed k noMailbox 0) h))
 
   pub goes-on : {x y z : List ℕ} {a : ℕ} → r ≡ 0 → Leaves c x y z a → Leaves (unless r s t o c) x y z a
-  unfolding unless
-  goes-on h l = rw (eq-eqb r 0 h) l
+  goes-on h l = leaves-as (unless-none r s t o c h) l
 
 -- ---- the opening
 
@@ -99,12 +114,7 @@ module _ {s t : List ℕ} (k : Taken s t) (b : Bytes t) where
     line-is = ap (λ (r : Reader). lastLine (at (r .section) (r .left) (r .steps) [] [])) h
 
     line-short : length (lastLine (at (r .section) (r .left) (r .steps) [] [])) ≤ 16
-    unfolding lastLine
-    line-short = to (eqb (r .section) behind)
-      where
-        to : (a : Bool) → length (cond a (ending (r .steps)) refusedLine) ≤ 16
-        to true = omega (arith, ending-most (r .steps) (omega (arith, steps-most)))
-        to false = omega arith
+    line-short = last-short (at (r .section) (r .left) (r .steps) [] []) steps-most
 
     module _ {l m : List ℕ} {n : ℕ} (p : Put l 0 (lastLine (at (r .section) (r .left) (r .steps) [] [])) m n) where
       pub last-most : n ≤ 16

@@ -10,10 +10,10 @@ use lib.ListN.{length, length-append}
 use borrow.Author.Tests.{eqb-true, eqb-false, eq-eqb, ne-eqb}
 use Rattle.words.proofs.Bytes.{Bytes, bytes-nil, bytes-cons, bytes-tail, bytes-append}
 use Rattle.model.specs.Step.{step}
-use Rattle.trace.specs.Trace.{countAt, line, refusedLine}
+use Rattle.trace.specs.Trace.{countAt, line, refusedLine, ending}
 use Rattle.trace.proofs.Answers.{step-small}
-use Rattle.trace.proofs.Bound.{line-most}
-use Rattle.stream.specs.Stream.{Standing, Turn, at, behind, over, opened, ended, fault, onward, runs, turn, fed, printed}
+use Rattle.trace.proofs.Bound.{line-most, ending-most}
+use Rattle.stream.specs.Stream.{Standing, Turn, at, behind, over, opened, ended, fault, onward, runs, turn, fed, printed, lastLine}
 use Rattle.stream.specs.Calls.{whole}
 use Rattle.stream.specs.Terms.{Ready}
 use Rattle.stream.proofs.Cuts.{printed-over}
@@ -25,6 +25,14 @@ pub whole-some : (k l : ℕ) → 0 < whole k l
 whole-some k l = to (eqb k behind) (eqb l 0)
   where
     to : (a b : Bool) → 0 < cond a 1 (cond b 2 16)
+    to true b = omega arith
+    to false true = omega arith
+    to false false = omega arith
+
+pub whole-most : (k l : ℕ) → whole k l ≤ 16
+whole-most k l = to (eqb k behind) (eqb l 0)
+  where
+    to : (a b : Bool) → cond a 1 (cond b 2 16) ≤ 16
     to true b = omega arith
     to false true = omega arith
     to false false = omega arith
@@ -156,12 +164,7 @@ fed-ready σ d (x ∷ l) b = fed-ready (turn σ x .next) (turn-ready σ d x (b .
 
 -- fewer than 16 bytes are gathered
 pub gathered-few : (σ : Standing) → Ready σ → length (σ .gathered) ≤ 15
-gathered-few σ d = to (eqb (σ .section) behind) (eqb (σ .left) 0) (d .short)
-  where
-    to : (a b : Bool) → length (σ .gathered) < cond a 1 (cond b 2 16) → length (σ .gathered) ≤ 15
-    to true b h = omega arith
-    to false true h = omega arith
-    to false false h = omega arith
+gathered-few σ d = omega (arith, d .short, whole-most (σ .section) (σ .left))
 
 pub steps-few : (σ : Standing) → Ready σ → σ .steps ≤ 3000
 steps-few σ d = to (eqb (σ .left) 0) refl (eqb (σ .section) over) refl
@@ -181,6 +184,15 @@ steps-few σ d = to (eqb (σ .left) 0) refl (eqb (σ .section) over) refl
 module _ (σ : Standing) (d : Ready σ) where
   pub line-short : 0 < σ .left → (e : List ℕ) → length (line (σ .steps + 1) (step (σ .image) e)) ≤ 13
   line-short z e = line-most (σ .steps + 1) (step (σ .image) e) (let r = d .running z in omega (arith, r .0, r .1)) (step-small (σ .image) e)
+
+-- the line of a closing
+pub last-short : (σ : Standing) → σ .steps ≤ 3000 → length (lastLine σ) ≤ 16
+unfolding lastLine
+last-short σ h = to (eqb (σ .section) behind)
+  where
+    to : (a : Bool) → length (cond a (ending (σ .steps)) refusedLine) ≤ 16
+    to true = omega (arith, ending-most (σ .steps) (omega arith))
+    to false = omega (arith, h)
 
 -- in all: the lines of the events that can still come, and the refusal line
 abbrev Room : Standing → ℕ → Type 0

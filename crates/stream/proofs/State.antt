@@ -21,7 +21,7 @@ use Rattle.trace.specs.Trace.{takes}
 use Rattle.stream.specs.Stream.{Standing, at, behind, over}
 use Rattle.stream.specs.Calls.{stateOf, standing, seen, known, whole, allZero, ranges, ready}
 use Rattle.stream.specs.Terms.{Ready}
-use Rattle.stream.proofs.Ready.{gathered-few, steps-few}
+use Rattle.stream.proofs.Ready.{whole-most, gathered-few, steps-few}
 
 -- ---- from a standing to its bytes
 
@@ -143,14 +143,6 @@ module _ (σ : Standing) (d : Ready σ) (going : σ .section ≢ over) where
       )
 
 -- ---- from bytes that are taken to the standing
-
-whole-most : (k l : ℕ) → whole k l ≤ 16
-whole-most k l = to (eqb k behind) (eqb l 0)
-  where
-    to : (a b : Bool) → cond a 1 (cond b 2 16) ≤ 16
-    to true b = omega arith
-    to false true = omega arith
-    to false false = omega arith
 
 or-false-l : (a b : Bool) → (a || b) ≡ true → a ≡ false → b ≡ true
 or-false-l true b h e = absurd (false≢true (sym e))

@@ -1,6 +1,6 @@
 -- A stream of calls: it hangs on the bytes of the trace alone; 9 exactly where a text does not fit; once it is over nothing changes; and the promise of
 -- each call leaves one outcome.
-use Prim.Native.Nat.{ℕ, _+_, _<_, _≤_}
+use Prim.Native.Nat.{ℕ, _+_, _≤_}
 use mathlib.Core.Path.{_≡_, refl, sym, _∙_, ap, ap₂, subst}
 use mathlib.Core.Bool.{Bool, true, false, cond, not, false≢true}
 use mathlib.Core.List.{List, [], _∷_, _++_, append-assoc, append-nil, flatMap}
@@ -9,23 +9,23 @@ use native.Mathlib.Omega.{arith}
 use lib.Dec.{eqb, ltb}
 use lib.ListN.{length, take, drop}
 use lib.Seq.{take-append-seam}
-use borrow.Author.Tests.{eq-eqb, ne-eqb, eqb-true, eqb-false, ltb-true, ltb-false, lt-ltb, le-ltb, not-true}
+use borrow.Author.Tests.{eq-eqb, ne-eqb, eqb-true, eqb-false, ltb-true, ltb-false, not-true}
 use Rattle.bits.proofs.Sets.{and-l, and-r}
 use Rattle.words.specs.Word.{wordAt}
 use Rattle.words.proofs.Bytes.{Bytes, bytes-take}
 use Rattle.fresh.proofs.Good.{fresh-facts}
 use Rattle.model.specs.Step.{step}
 use Rattle.model.proofs.Lengths.{step-length}
-use Rattle.trace.specs.Trace.{wellFormed, imageAfter, header, refusedLine, ending}
-use Rattle.trace.proofs.Bound.{ending-most}
+use Rattle.trace.specs.Trace.{wellFormed, imageAfter, header}
 use Rattle.stream.specs.Stream.{Standing, behind, over, isOver, opened, ended, fed, printed, complete, lastLine, transcript}
 use Rattle.stream.specs.Calls.{stateOf, standing, Call, refused, prints, lengths, against, unless, opening, fedCall, feeding, lastCall, closing, Leaves, OpenCall, FeedCall, CloseCall}
 use Rattle.stream.specs.Terms.{Ready}
 use Rattle.stream.specs.Agreement.{Held, Stands, Feeding, after, Part, fedTo, afterParts, roomy, begun, lastOf, file, Ends, Cutting, Nine, Rooms, Over, Finished}
 use Rattle.stream.proofs.Cuts.{fed-append, printed-append, fed-over, printed-over}
-use Rattle.stream.proofs.Ready.{opened-ready, ended-ready, fed-ready, steps-few, printed-most, printed-fits}
+use Rattle.stream.proofs.Ready.{opened-ready, ended-ready, fed-ready, steps-few, last-short, printed-most, printed-fits}
 use Rattle.stream.proofs.State.{length-state, section-back, standing-back, ready-state, ready-standing, standing-state}
 use Rattle.stream.proofs.Judging.{Stands as Against, taken, free, past, unfit, stands, over-already, nothing-against}
+use Rattle.stream.proofs.Leaving.{there, prints-fits, prints-short, unless-none, unless-some}
 use Rattle.stream.proofs.Story.{story}
 use Rattle.stream.proofs.Walk.{all-read}
 use Rattle.stream.proofs.Came.{read-back}
@@ -33,51 +33,32 @@ use Rattle.stream.proofs.Came.{read-back}
 -- ---- a text that fits, and one that does not
 
 module _ (s t o : List ℕ) (σ : Standing) (u : List ℕ) (r : ℕ) where
-  abbrev there : Call
-  there = record { image = σ .image; state = stateOf σ; text = u ++ drop (length u) o; refusal = r; bytes = length u }
-
-  prints-fits : length u ≤ length o → prints s t o σ u r ≡ there
-  unfolding prints
-  prints-fits h = rw (le-ltb (length o) (length u) h)
-
-  prints-short : length o < length u → prints s t o σ u r ≡ refused s t o 9
-  unfolding prints
-  prints-short h = rw (lt-ltb (length o) (length u) h)
-
   nine : r ≢ 9 → Nine s t o u (prints s t o σ u r)
   nine n = to (ltb (length o) (length u)) refl
     where
       to : (a : Bool) → ltb (length o) (length u) ≡ a → Nine s t o u (prints s t o σ u r)
       to true e =
           let l = ltb-true (length o) (length u) e in
-          let c = prints-short l in
+          let c = prints-short s t o σ u r l in
           record { exactly = (λ h. l, λ h. ap (λ (c : Call). c .refusal) c); unchanged = λ h. c }
       to false e =
           let l = ltb-false (length o) (length u) e in
-          let never : prints s t o σ u r .refusal ≡ 9 → ⊥ = λ h. n (sym (ap (λ (c : Call). c .refusal) (prints-fits l)) ∙ h) in
+          let never : prints s t o σ u r .refusal ≡ 9 → ⊥ = λ h. n (sym (ap (λ (c : Call). c .refusal) (prints-fits s t o σ u r l)) ∙ h) in
           record { exactly = (λ h. absurd (never h), λ h. absurd (omega arith)); unchanged = λ h. absurd (never h) }
 
   -- no 9: it is there
-  not-nine : r ≢ 9 → prints s t o σ u r .refusal ≢ 9 → prints s t o σ u r ≡ there
+  not-nine : r ≢ 9 → prints s t o σ u r .refusal ≢ 9 → prints s t o σ u r ≡ there s t o σ u r
   not-nine n h = to (ltb (length o) (length u)) refl
     where
-      to : (a : Bool) → ltb (length o) (length u) ≡ a → prints s t o σ u r ≡ there
-      to true e = absurd (h (ap (λ (c : Call). c .refusal) (prints-short (ltb-true (length o) (length u) e))))
-      to false e = prints-fits (ltb-false (length o) (length u) e)
+      to : (a : Bool) → ltb (length o) (length u) ≡ a → prints s t o σ u r ≡ there s t o σ u r
+      to true e = absurd (h (ap (λ (c : Call). c .refusal) (prints-short s t o σ u r (ltb-true (length o) (length u) e))))
+      to false e = prints-fits s t o σ u r (ltb-false (length o) (length u) e)
 
 neither : (a : Bool) (m n : ℕ) → m ≢ 9 → n ≢ 9 → cond a m n ≢ 9
 neither true m n h k = h
 neither false m n h k = k
 
 -- ---- what stands against a call
-
-unless-none : (r : ℕ) (s t o : List ℕ) (c : Call) → r ≡ 0 → unless r s t o c ≡ c
-unfolding unless
-unless-none r s t o c h = rw (eq-eqb r 0 h)
-
-unless-some : (r : ℕ) (s t o : List ℕ) (c : Call) → r ≢ 0 → unless r s t o c ≡ refused s t o r
-unfolding unless
-unless-some r s t o c h = rw (ne-eqb r 0 h)
 
 module _ (s t : List ℕ) (h : length s ≡ 640) (k : length t ≡ 32) where
   lengths-hold : lengths s t ≡ true
@@ -132,15 +113,6 @@ module _ (s t p o : List ℕ) (small : Bytes t) (l : Ready (standing s t) → le
           neither (isOver (fed σ p)) 8 0 (λ e. omega arith) (λ e. omega arith) (sym (ap (λ (c : Call). c .refusal) c) ∙ h)
       to (past i k z) e h = stopped e (λ z. omega arith) (λ z. omega arith) h
       to unfit e h = stopped e (λ z. omega arith) (λ z. omega arith) h
-
--- the closing's line is never longer than the refusal line
-last-short : (σ : Standing) → σ .steps ≤ 3000 → length (lastLine σ) ≤ 16
-unfolding lastLine
-last-short σ h = to (eqb (σ .section) behind)
-  where
-    to : (a : Bool) → length (cond a (ending (σ .steps)) refusedLine) ≤ 16
-    to true = omega (arith, ending-most (σ .steps) (omega arith))
-    to false = omega arith
 
 module _ (s t o : List ℕ) (small : Bytes t) (l : 16 ≤ length o) where
   closes-enough : closing s t o .refusal ≢ 9
