@@ -165,6 +165,20 @@ static size_t sending_event(uint8_t *event, const uint8_t *image)
     return given(event, start());
 }
 
+/* Nothing waits, and the lowest number would go first: a start looks for one, and finds none. */
+static void idle_image(uint8_t *image)
+{
+    sending_image(image);
+    put(image, TRS, 0);
+    put(image, OPTIONS, word_of(image, OPTIONS) & ~(uint32_t)FROSTSORREL_MTOS);
+}
+
+static size_t idle_event(uint8_t *event, const uint8_t *image)
+{
+    (void)image;
+    return given(event, start());
+}
+
 static void draw_stream(struct stream *s, image_function *first, event_function *next)
 {
     uint8_t image[BYTES];
@@ -518,7 +532,7 @@ static void say_where(unsigned long rounds, unsigned long seed)
 int main(int argc, char **argv)
 {
     unsigned long rounds = argument(argc, argv, 1, 15), seed = argument(argc, argv, 2, 1);
-    double ratios[9], worst = 0; /* one for each stream */
+    double ratios[10], worst = 0; /* one for each stream */
 
     if (rounds == 0 || rounds > MOST_ROUNDS)
         rounds = MOST_ROUNDS;
@@ -533,6 +547,7 @@ int main(int argc, char **argv)
     ratios[6] = measure_feeds("fed in parts", some_events, 0, rounds);
     ratios[7] = measure_feeds("tight rooms", some_events, 1, rounds);
     ratios[8] = measure_feeds("byte by byte", one_byte, 0, rounds);
+    ratios[9] = measure("idle starts", idle_image, idle_event, rounds);
     for (size_t i = 0; i < sizeof ratios / sizeof ratios[0]; i++)
         worst = ratios[i] > worst ? ratios[i] : worst;
     printf("worst ratio %26.3f\n", worst);

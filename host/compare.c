@@ -12,8 +12,9 @@
  *
  * A line before the sum says how often outcome 3 was taken, and how often by a model that was passive before it,
  * since the two count TEC differently, and how often only REC made it so. Another says how many frames with a DLC of
- * 9 to 15 were stored, data and remote ones, and how many were refused for nothing but a DLC above 15. The last ones
- * say what the explanations and the streams have met.
+ * 9 to 15 were stored, data and remote ones, and how many were refused for nothing but a DLC above 15. A third says how
+ * many starts without MTOS took a mailbox, and how many found nothing to send. The last ones say what the explanations
+ * and the streams have met.
  */
 #include <stdlib.h>
 
@@ -224,6 +225,38 @@ static void check_dlc(unsigned long steps)
           "a data frame of DLC 9 to 15 stored, such a remote frame, and a DLC above 15 were not all met");
 }
 
+/* ---- starts without MTOS, by the mailbox that they took; those that found nothing to send by 32 */
+
+static unsigned long starts[FROSTSORREL_NO_MAILBOX + 1];
+
+static int is_on_bus(const uint8_t *image)
+{
+    return word_of(image, MODE) == NORMAL_MODE && word_of(image, TEC) != BUS_OFF_TEC;
+}
+
+static void count_start(const struct trial *t, uint64_t answer)
+{
+    uint32_t n = frostsorrel_answer_mailbox(answer);
+
+    if (t->event[0] == FROSTSORREL_START && frostsorrel_answer_refusal(answer) == FROSTSORREL_ACCEPTED &&
+        is_on_bus(t->image) && !(word_of(t->image, OPTIONS) & FROSTSORREL_MTOS) && n <= FROSTSORREL_NO_MAILBOX)
+        starts[n]++;
+}
+
+static void check_starts(unsigned long steps)
+{
+    unsigned long taken = 0, least = starts[0], nothing = starts[FROSTSORREL_NO_MAILBOX];
+
+    for (int n = 0; n < FROSTSORREL_MAILBOXES - 1; n++) {
+        taken += starts[n];
+        least = starts[n] < least ? starts[n] : least;
+    }
+    printf("starts without MTOS: %lu took a mailbox, each of 0 to 30 at least %lu times; %lu found nothing\n", taken,
+           least, nothing);
+    check(steps < LONG_ENOUGH || (least > 0 && nothing > 0),
+          "starts without MTOS did not take each of mailboxes 0 to 30, and nothing");
+}
+
 /* ---- what is tried */
 
 static uint8_t reached[BYTES]; /* by a run from a fresh model */
@@ -281,6 +314,7 @@ static void compare_step(unsigned long number)
         show(t);
     count_unacknowledged(&t, ours.answer);
     count_dlc(&t, ours.answer);
+    count_start(&t, ours.answer);
     if (source == REACHED)
         memcpy(reached, theirs.arena + GUARD, BYTES);
     if (source == BUILT)
@@ -764,11 +798,6 @@ static int agrees_with_step(const struct pair *p, const uint8_t *list, uint64_t 
            frostsorrel_step(replying, BYTES, p->second, EVENT_BYTES) == packed(stop, compared);
 }
 
-static int is_heard(const uint8_t *image)
-{
-    return word_of(image, MODE) == NORMAL_MODE && word_of(image, TEC) != BUS_OFF_TEC;
-}
-
 /* ---- what explanations have met: all of it, in a long run */
 
 enum met {
@@ -917,7 +946,7 @@ static void count_explanation(const struct pair *p)
         tallies[A_DISABLED + frostsorrel_line_reason(list, i) - FROSTSORREL_DISABLED].times++;
     if (refusal != FROSTSORREL_ACCEPTED)
         return;
-    if (is_heard(p->first))
+    if (is_on_bus(p->first))
         count_search(p->first, frostsorrel_event_value(p->second), list, count);
     else
         count_silence(p->first);
@@ -930,7 +959,7 @@ static void explain_frame(unsigned long number)
 
     draw_question(&p);
     ours = effect_of_both(number, &p, &explaining, show_question);
-    if (frostsorrel_answer_refusal(ours.answer) == FROSTSORREL_ACCEPTED && is_heard(p.first))
+    if (frostsorrel_answer_refusal(ours.answer) == FROSTSORREL_ACCEPTED && is_on_bus(p.first))
         check(agrees_with_step(&p, ours.list + GUARD, frostsorrel_answer_count(ours.answer)),
               "step %lu: explanation and step of a frame do not agree", number);
     count_explanation(&p);
@@ -965,6 +994,7 @@ int main(int argc, char **argv)
     }
     check_unacknowledged(steps);
     check_dlc(steps);
+    check_starts(steps);
     check_tallies("explain", tallies, TALLIES, steps);
     check_streams(steps);
     snprintf(name, sizeof name, "host compare, %lu steps, seed %lu", steps, seed);

@@ -29,6 +29,24 @@ static void start_by_number(void)
     now({SLOT, 2});
 }
 
+/* Each mailbox is the lowest, whether others stand above it or not; of no mailbox a start takes none. */
+static void start_at_each_mailbox(void)
+{
+    for (int n = 0; n < 31; n++) {
+        begin("start at the only mailbox", NORMAL);
+        given({TRS, BIT(n)}, {MC, 0xFFFFFFFF});
+        answers(start(), n, 0);
+        now({SLOT, n});
+        begin("start at the lower of two mailboxes", NORMAL);
+        given({TRS, BIT(n) | BIT(30)}, {MC, 0xFFFFFFFF});
+        answers(start(), n, 0);
+        now({SLOT, n});
+    }
+    begin("start at no mailbox", NORMAL);
+    given({TRS, 0}, {MC, 0xFFFFFFFF});
+    accept(start());
+}
+
 /* TRS and MC and not CDR; TRR cannot stand with an empty slot. */
 static void who_may_start(void)
 {
@@ -171,17 +189,23 @@ static void key_of_the_eligible(void)
     now({SLOT, 3});
 }
 
-static void every_mailbox_is_sent_once(void)
+/* 31 requests whose keys fall as their numbers rise: by key from 30 down, by number from 0 up. Then nothing is left. */
+static void every_mailbox_is_sent_once(const char *name, uint32_t mtos)
 {
-    begin("31 requests in the order of their keys", NORMAL);
-    given({OPTIONS, 1});
+    uint32_t left = 0x7FFFFFFF;
+
+    begin(name, NORMAL);
+    given({OPTIONS, mtos});
     for (int n = 0; n < 31; n++)
         asking(n, STANDARD(0x400 - n), CONTROL(0, 0, 1));
-    for (int n = 30; n >= 0; n--) {
+    for (int i = 0; i < 31; i++) {
+        int n = mtos ? 30 - i : i;
+
         answers(start(), n, 0);
         now({SLOT, n});
         answers(outcome(SENT), n, 0);
-        now({SLOT, EMPTY_SLOT}, {TRS, BIT(n) - 1}, {TA, 0x7FFFFFFF & ~(BIT(n) - 1)});
+        left &= ~BIT(n);
+        now({SLOT, EMPTY_SLOT}, {TRS, left}, {TA, 0x7FFFFFFF & ~left});
     }
     accept(start());
 }
@@ -578,12 +602,14 @@ static void elevens_elsewhere(void)
 void step_sending(void)
 {
     start_by_number();
+    start_at_each_mailbox();
     who_may_start();
     no_start_off_the_bus();
     start_by_key();
     equal_keys();
     key_of_the_eligible();
-    every_mailbox_is_sent_once();
+    every_mailbox_is_sent_once("31 requests in the order of their keys", 1);
+    every_mailbox_is_sent_once("31 requests in the order of their numbers", 0);
     sent();
     for (uint32_t dlc = 0; dlc <= 15; dlc++) {
         sent_with_dlc(0, dlc);

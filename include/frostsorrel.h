@@ -25,10 +25,10 @@
 extern "C" {
 #endif
 
-#define FROSTSORREL_VERSION "0.6.0"
+#define FROSTSORREL_VERSION "0.6.1"
 #define FROSTSORREL_VERSION_MAJOR 0
 #define FROSTSORREL_VERSION_MINOR 6
-#define FROSTSORREL_VERSION_PATCH 0
+#define FROSTSORREL_VERSION_PATCH 1
 
 #define FROSTSORREL_IMAGE_BYTES 640
 #define FROSTSORREL_IMAGE_WORDS 160 /* four of each mailbox, then the 32 register words */

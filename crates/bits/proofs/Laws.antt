@@ -26,6 +26,13 @@ digit-suc : (w n : ℕ) → digit w (suc n) ≡ digit (w / 2) n
 unfolding digit
 digit-suc w n = ap (λ (x : ℕ). x % 2) (ap (λ (k : ℕ). w / 2 ^ k) (sym (one-add n)) ∙ sym (shr-shr w 1 n))
 
+-- bit 0 is up where the word is odd; any other bit is the one before it of the word's half
+pub bit-first : {d : ℕ} (w : ℕ) → w % 2 ≡ d → bit w 0 ≡ eqb d 1
+bit-first w e = ap (λ (x : ℕ). eqb x 1) (digit-zero w ∙ e)
+
+pub bit-suc : (w n : ℕ) → bit w (suc n) ≡ bit (w / 2) n
+bit-suc w n = ap (λ (x : ℕ). eqb x 1) (digit-suc w n)
+
 digit-none : (n : ℕ) → digit 0 n ≡ 0
 digit-none zero = digit-zero 0
 digit-none (suc n) = digit-suc 0 n ∙ digit-none n
@@ -152,10 +159,7 @@ same-below (suc k) a b ha hb h =
     let low : a % 2 ≡ b % 2 = sym (digit-zero a) ∙ first ∙ digit-zero b in
     let high : a / 2 ≡ b / 2 =
     same-below k (a / 2) (b / 2) (omega arith) (omega arith)
-    (λ n hn.
-    ap (λ (x : ℕ). eqb x 1) (sym (digit-suc a n))
-    ∙ h (suc n) (omega arith)
-    ∙ ap (λ (x : ℕ). eqb x 1) (digit-suc b n)) in
+    (λ n hn. sym (bit-suc a n) ∙ h (suc n) (omega arith) ∙ bit-suc b n) in
     omega arith
 
 lt-two-pow : (n : ℕ) → n < 2 ^ n

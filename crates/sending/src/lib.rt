@@ -9,20 +9,12 @@ ghost use Rattle.sending.specs.Choice.{keyAt, smallestBelow, betterOf, c
 use mailboxes::Key;
 use registers::Block;
 
-// The lowest mailbox that a word names; 32 where it names none.
+// The lowest mailbox that a word names; 32 where it names none. The number is the count of the zeros below the mailbox's bit, and
+// the empty word has 32.
 pub fn lowest(w: u32) -> u32
     ensures { λ r. ⌜ r ≡ firstBelow (bit w) 32 ⌝ }
 {
-    let mut n: u32 = 0;
-    loop {
-        if n == 32 {
-            break n;
-        }
-        if bits::test(w, n) {
-            break n;
-        }
-        n += 1;
-    }
+    u32::trailing_zeros(w)
 }
 
 // The arbitration key of mailbox n.
