@@ -127,7 +127,8 @@ static void random_run(uint64_t seed, int steps)
     }
 }
 
-int main(void)
+/* An argument is the name that the sum is printed with. */
+int main(int argc, char **argv)
 {
     worked_example();
     step_refusals();
@@ -140,5 +141,5 @@ int main(void)
     end();
     for (uint64_t seed = 1; seed <= 4; seed++)
         random_run(seed, 2000);
-    return report("host step");
+    return report(argc > 1 ? argv[1] : "host step");
 }
