@@ -29,19 +29,21 @@ static void start_by_number(void)
     now({SLOT, 2});
 }
 
-/* Each mailbox is the lowest, whether others stand above it or not; of no mailbox a start takes none. */
+static void start_at(const char *name, int n, uint32_t waiting)
+{
+    begin(name, NORMAL);
+    given({TRS, waiting}, {MC, 0xFFFFFFFF});
+    answers(start(), n, 0);
+    now({SLOT, n});
+}
+
+/* Every mailbox can be the lowest, alone or below another; where none waits, none is taken. */
 static void start_at_each_mailbox(void)
 {
-    for (int n = 0; n < 31; n++) {
-        begin("start at the only mailbox", NORMAL);
-        given({TRS, BIT(n)}, {MC, 0xFFFFFFFF});
-        answers(start(), n, 0);
-        now({SLOT, n});
-        begin("start at the lower of two mailboxes", NORMAL);
-        given({TRS, BIT(n) | BIT(30)}, {MC, 0xFFFFFFFF});
-        answers(start(), n, 0);
-        now({SLOT, n});
-    }
+    for (int n = 0; n < 31; n++)
+        start_at("start at the only mailbox", n, BIT(n));
+    for (int n = 0; n < 30; n++)
+        start_at("start at the lower of two mailboxes", n, BIT(n) | BIT(30));
     begin("start at no mailbox", NORMAL);
     given({TRS, 0}, {MC, 0xFFFFFFFF});
     accept(start());

@@ -26,13 +26,6 @@ digit-suc : (w n : ℕ) → digit w (suc n) ≡ digit (w / 2) n
 unfolding digit
 digit-suc w n = ap (λ (x : ℕ). x % 2) (ap (λ (k : ℕ). w / 2 ^ k) (sym (one-add n)) ∙ sym (shr-shr w 1 n))
 
--- bit 0 is up where the word is odd; any other bit is the one before it of the word's half
-pub bit-first : {d : ℕ} (w : ℕ) → w % 2 ≡ d → bit w 0 ≡ eqb d 1
-bit-first w e = ap (λ (x : ℕ). eqb x 1) (digit-zero w ∙ e)
-
-pub bit-suc : (w n : ℕ) → bit w (suc n) ≡ bit (w / 2) n
-bit-suc w n = ap (λ (x : ℕ). eqb x 1) (digit-suc w n)
-
 digit-none : (n : ℕ) → digit 0 n ≡ 0
 digit-none zero = digit-zero 0
 digit-none (suc n) = digit-suc 0 n ∙ digit-none n
@@ -63,6 +56,14 @@ digit-not (suc k) (suc m) v h hv =
     ∙ ap (λ (x : ℕ). digit x m) e
     ∙ digit-not k m (v / 2) (omega arith) h'
     ∙ ap (λ (x : ℕ). 1 - x) (sym (digit-suc v m))
+
+-- ---- the lowest bit, and the others by the word's half
+
+pub bit-first : {d : ℕ} (w : ℕ) → w % 2 ≡ d → bit w 0 ≡ eqb d 1
+bit-first w e = ap (λ (x : ℕ). eqb x 1) (digit-zero w ∙ e)
+
+pub bit-suc : (w n : ℕ) → bit w (suc n) ≡ bit (w / 2) n
+bit-suc w n = ap (λ (x : ℕ). eqb x 1) (digit-suc w n)
 
 -- ---- one law for and, or and exclusive or: f goes digit by digit, g is its table
 

@@ -9,8 +9,8 @@ ghost use Rattle.sending.specs.Choice.{keyAt, smallestBelow, betterOf, c
 use mailboxes::Key;
 use registers::Block;
 
-// The lowest mailbox that a word names; 32 where it names none. The number is the count of the zeros below the mailbox's bit, and
-// the empty word has 32.
+// The lowest mailbox that a word names, by the count of the zeros below its bit; 32 where it names none, which is the count of
+// the empty word.
 pub fn lowest(w: u32) -> u32
     ensures { λ r. ⌜ r ≡ firstBelow (bit w) 32 ⌝ }
 {
