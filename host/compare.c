@@ -13,8 +13,8 @@
  * A line before the sum says how often outcome 3 was taken, and how often by a model that was passive before it,
  * since the two count TEC differently, and how often only REC made it so. Another says how many frames with a DLC of
  * 9 to 15 were stored, data and remote ones, and how many were refused for nothing but a DLC above 15. A third says how
- * many starts without MTOS took a mailbox, and how many found nothing to send. The last ones say what the explanations
- * and the streams have met.
+ * many starts without MTOS took a mailbox of the lower and of the upper half, and how many found nothing to send. The
+ * last ones say what the explanations and the streams have met.
  */
 #include <stdlib.h>
 
@@ -225,9 +225,16 @@ static void check_dlc(unsigned long steps)
           "a data frame of DLC 9 to 15 stored, such a remote frame, and a DLC above 15 were not all met");
 }
 
-/* ---- starts without MTOS, as they took a mailbox of the lower or the upper half, or found nothing to send */
+/* ---- starts without MTOS: what they took */
 
-static unsigned long took_low, took_high, took_none;
+enum { TOOK_LOW, TOOK_HIGH, TOOK_NONE };
+
+static struct tally starts[] = {
+    [TOOK_LOW] = {"without MTOS", "took one of mailboxes 0 to 15", 0},
+    [TOOK_HIGH] = {"without MTOS", "took one of 16 to 30", 0},
+    [TOOK_NONE] = {"without MTOS", "found nothing", 0},
+};
+#define STARTS (sizeof starts / sizeof starts[0])
 
 static int is_on_bus(const uint8_t *image)
 {
@@ -241,20 +248,7 @@ static void count_start(const struct trial *t, uint64_t answer)
     if (t->event[0] != FROSTSORREL_START || frostsorrel_answer_refusal(answer) != FROSTSORREL_ACCEPTED ||
         !is_on_bus(t->image) || word_of(t->image, OPTIONS) & FROSTSORREL_MTOS)
         return;
-    if (n == FROSTSORREL_NO_MAILBOX)
-        took_none++;
-    else if (n < FROSTSORREL_MAILBOXES / 2)
-        took_low++;
-    else
-        took_high++;
-}
-
-static void check_starts(unsigned long steps)
-{
-    printf("starts without MTOS: %lu took a mailbox, of them %lu one of 16 to 30; %lu found nothing\n",
-           took_low + took_high, took_high, took_none);
-    check(steps < LONG_ENOUGH || (took_low > 0 && took_high > 0 && took_none > 0),
-          "starts without MTOS that took one of mailboxes 0 to 15, one of 16 to 30, and none were not all met");
+    starts[n == FROSTSORREL_NO_MAILBOX ? TOOK_NONE : n < FROSTSORREL_MAILBOXES / 2 ? TOOK_LOW : TOOK_HIGH].times++;
 }
 
 /* ---- what is tried */
@@ -994,7 +988,7 @@ int main(int argc, char **argv)
     }
     check_unacknowledged(steps);
     check_dlc(steps);
-    check_starts(steps);
+    check_tallies("start", starts, STARTS, steps);
     check_tallies("explain", tallies, TALLIES, steps);
     check_streams(steps);
     snprintf(name, sizeof name, "host compare, %lu steps, seed %lu", steps, seed);
