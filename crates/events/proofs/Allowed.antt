@@ -17,20 +17,18 @@ use Rattle.events.specs.declared.Frame.{Frame}
 use Rattle.events.specs.declared.Event.{Event}
 use Rattle.events.specs.declared.Event.the-variants.{Refused, Register, Mailbox, Heard, Start, Outcome, ReceiveError, Recessive, Tick, Mode, Options, Reset}
 use Rattle.events.specs.Parts.{operation, target, word, value, frameOf, frameBytes, frameAllowed}
-use Rattle.events.specs.Decode.{lastOutcome, knownAs, quietAs, registerAllowed, allowedAs, eventAs, unknown, disallowed, event, decoded}
+use Rattle.events.specs.Decode.{writable, lastOutcome, knownAs, quietAs, registerAllowed, allowedAs, eventAs, unknown, disallowed, event, decoded}
 use Rattle.events.proofs.Laws.{operations, Each, each}
 use Rattle.events.proofs.Unused.{payload-lt, quiet-data}
 use Rattle.events.proofs.Refusals.{known-operation, operation-below, isRefused, accepted}
 
 -- ---- the facts
 
--- register t, neither RML nor RFP, and its value
-pub record RegisterAllowed (t v : ℕ) : Type 0 where
-  pub known : t ≤ 19
-  pub notLost : t ≢ 7
-  pub notRemote : t ≢ 10
+-- register t, one that can be written, and its value, in an eCAN or not
+pub record RegisterAllowed (p : Bool) (t v : ℕ) : Type 0 where
+  pub known : writable t ≡ true
   pub small : v < 2 ^ 32
-  pub valued : registerAllowed t v ≡ true
+  pub valued : registerAllowed p t v ≡ true
 
 -- word k of mailbox n
 pub record MailboxAllowed (n k v : ℕ) : Type 0 where
@@ -46,24 +44,21 @@ pub record FrameAllowed (f : Frame) : Type 0 where
   pub small : f .bytes < 2 ^ 64
   pub unused : f .bytes / 2 ^ (8 * dataBytes (f .rtr) (f .dlc)) ≡ 0
 
-abbrev pub Allowed : Event → Type 0
-Allowed (Refused n) = ⊥
-Allowed (Register t v) = RegisterAllowed t v
-Allowed (Mailbox n k v) = MailboxAllowed n k v
-Allowed (Heard f) = FrameAllowed f
-Allowed Start = Unit
-Allowed (Outcome k) = k ≤ lastOutcome
-Allowed (ReceiveError v) = (v ≡ 1) ⊎ (v ≡ 8)
-Allowed Recessive = Unit
-Allowed Tick = Unit
-Allowed (Mode v) = v ≤ 3
-Allowed (Options v) = v ≤ 3
-Allowed Reset = Unit
+abbrev pub Allowed : Bool → Event → Type 0
+Allowed p (Refused n) = ⊥
+Allowed p (Register t v) = RegisterAllowed p t v
+Allowed p (Mailbox n k v) = MailboxAllowed n k v
+Allowed p (Heard f) = FrameAllowed f
+Allowed p Start = Unit
+Allowed p (Outcome k) = k ≤ lastOutcome
+Allowed p (ReceiveError v) = (v ≡ 1) ⊎ (v ≡ 8)
+Allowed p Recessive = Unit
+Allowed p Tick = Unit
+Allowed p (Mode v) = v ≤ 3
+Allowed p (Options v) = v ≤ 3
+Allowed p Reset = Unit
 
 -- ---- an operation at a time
-
-not-eqb : (m n : ℕ) → not (eqb m n) ≡ true → m ≢ n
-not-eqb m n h = eqb-false m n (not-true (eqb m n) h)
 
 either-eqb : (x m n : ℕ) → (eqb x m || eqb x n) ≡ true → (x ≡ m) ⊎ (x ≡ n)
 either-eqb x m n h = at (eqb x m) refl
@@ -72,21 +67,12 @@ either-eqb x m n h = at (eqb x m) refl
     at true p = inl (eqb-true x m p)
     at false p = inr (eqb-true x n (rw p at h))
 
-module _ (e : List ℕ) (b : Bytes e) where
+module _ (p : Bool) (e : List ℕ) (b : Bytes e) where
   abbrev Fits : ℕ → Type 0
-  Fits k = knownAs k e ≡ true → quietAs k e ≡ true → allowedAs k e ≡ true → Allowed (eventAs k e)
+  Fits k = knownAs k e ≡ true → quietAs k e ≡ true → allowedAs k p e ≡ true → Allowed p (eventAs k e)
 
   register : Fits 0
-  register k q a =
-      let t = target e in
-      let f = all (leb t 19 ∷ not (eqb t 7) ∷ not (eqb t 10) ∷ []) k in
-      record {
-        known = leb-true t 19 (f .0);
-        notLost = not-eqb t 7 (f .1 .0);
-        notRemote = not-eqb t 10 (f .1 .1 .0);
-        small = word-lt e b 4;
-        valued = a;
-      }
+  register k q a = record { known = k; small = word-lt e b 4; valued = a }
 
   mailbox : Fits 1
   mailbox k q a =
@@ -102,7 +88,7 @@ module _ (e : List ℕ) (b : Bytes e) where
       record {
         dlc = leb-true (target e) highestDlc (f .0);
         identifier = omega arith;
-        standard = λ p. let z = eqb-true (v % 2 ^ 18) 0 (rw p at (f .1 .1 .0)) in omega arith;
+        standard = λ i. let z = eqb-true (v % 2 ^ 18) 0 (rw i at (f .1 .1 .0)) in omega arith;
         small = payload-lt e b;
         unused = quiet-data e true false true (frameBytes e) q;
       }
@@ -126,16 +112,16 @@ module _ (e : List ℕ) (b : Bytes e) where
       let counts : Each Fits 8 = (((sends, receive-error), λ k q a. tt), λ k q a. tt) in
       (((counts, mode), options), λ k q a. tt)
 
-pub allowed : (e : List ℕ) → Bytes e → unknown e ≡ false → disallowed e ≡ false → Allowed (event e)
-allowed e b u d =
+pub allowed : (p : Bool) (e : List ℕ) → Bytes e → unknown e ≡ false → disallowed p e ≡ false → Allowed p (event e)
+allowed p e b u d =
     let k = known-operation e u in
     let q = quietAs (operation e) e in
-    let a = allowedAs (operation e) e in
-    let p : (q && a) ≡ true = not-false (q && a) d in
-    each (Fits e b) operations (allowed-as e b) (operation e) (operation-below e u) k (and-l q a p) (and-r q a p)
+    let a = allowedAs (operation e) p e in
+    let both : (q && a) ≡ true = not-false (q && a) d in
+    each (Fits p e b) operations (allowed-as p e b) (operation e) (operation-below e u) k (and-l q a both) (and-r q a both)
 
 -- the same of what decoding gives
-pub decoded-allowed : (a : Bool) (e : List ℕ) (v : Event) → Bytes e → decoded a e ≡ v → isRefused v ≡ false → Allowed v
-decoded-allowed a e v b h n =
-    let x = accepted a e v h n in
-    subst Allowed (sym (x .same)) (allowed e b (x .known) (x .fair))
+pub decoded-allowed : (a p : Bool) (e : List ℕ) (v : Event) → Bytes e → decoded a p e ≡ v → isRefused v ≡ false → Allowed p v
+decoded-allowed a p e v b h n =
+    let x = accepted a p e v h n in
+    subst (Allowed p) (sym (x .same)) (allowed p e b (x .known) (x .fair))

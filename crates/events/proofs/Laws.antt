@@ -21,19 +21,24 @@ abbrev pub operations : ℕ
 operations = 11
 
 -- 16 bytes are judged by their operation
-pub decoded-as : (a : Bool) (e : List ℕ) (k : ℕ) → length e ≡ eventBytes → operation e ≡ k → decoded a e ≡ decodedAs k a e
+pub decoded-as : (a p : Bool) (e : List ℕ) (k : ℕ) → length e ≡ eventBytes → operation e ≡ k → decoded a p e ≡ decodedAs k a p e
 unfolding decoded decodedAs
-decoded-as a e k h o = rw (eq-eqb (length e) eventBytes h, o)
+decoded-as a p e k h o = rw (eq-eqb (length e) eventBytes h, o)
 
 -- any other number of bytes is refused
-pub decoded-long : (a : Bool) (e : List ℕ) → (length e ≡ eventBytes → ⊥) → decoded a e ≡ Refused 2
+pub decoded-long : (a p : Bool) (e : List ℕ) → (length e ≡ eventBytes → ⊥) → decoded a p e ≡ Refused 2
 unfolding decoded
-decoded-long a e h = rw (ne-eqb (length e) eventBytes h)
+decoded-long a p e h = rw (ne-eqb (length e) eventBytes h)
 
 -- and so is an operation past the last
-pub decoded-none : (a : Bool) (e : List ℕ) (k : ℕ) → operations ≤ k → decodedAs k a e ≡ Refused 2
+pub decoded-none : (a p : Bool) (e : List ℕ) (k : ℕ) → operations ≤ k → decodedAs k a p e ≡ Refused 2
 unfolding decodedAs
-decoded-none a e k h = rw (List·getD-eq-default _ false h)
+decoded-none a p e k h = rw (List·getD-eq-default _ false h)
+
+-- the profile matters to register writes alone
+pub any-profile : (k : ℕ) (a p q : Bool) (e : List ℕ) → decodedAs (suc k) a p e ≡ decodedAs (suc k) a q e
+unfolding decodedAs
+any-profile k a p q e = refl
 
 -- a fact of each number below n, in a row: what is left after a `match` on 0, 1 and so on is such a row
 abbrev pub Each : (ℕ → Type 0) → ℕ → Type 0
@@ -83,6 +88,6 @@ module _ (e : List ℕ) where
   unfolding frameRefusal
   other-operation h = rw (ne-eqb _ _ h, and-false (eqb (length e) eventBytes))
 
-  pub a-frame : length e ≡ eventBytes → operation e ≡ 2 → frameRefusal e ≡ cond (not (quietAs 2 e && allowedAs 2 e)) 4 0
+  pub a-frame : length e ≡ eventBytes → operation e ≡ 2 → frameRefusal e ≡ cond (not (quietAs 2 e && allowedAs 2 false e)) 4 0
   unfolding frameRefusal
   a-frame l o = rw (eq-eqb _ _ l, eq-eqb _ _ o)

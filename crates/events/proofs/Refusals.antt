@@ -20,20 +20,20 @@ use Rattle.events.proofs.Laws.{operations}
 
 -- ---- the refusal of each test
 
-module _ (a : Bool) (e : List ℕ) where
-  pub unknown-refused : unknown e ≡ true → decoded a e ≡ Refused 2
+module _ (a p : Bool) (e : List ℕ) where
+  pub unknown-refused : unknown e ≡ true → decoded a p e ≡ Refused 2
   unfolding decoded
   unknown-refused u = rw u
 
-  pub asleep-refused : unknown e ≡ false → (wakeful e && a) ≡ true → decoded a e ≡ Refused 3
+  pub asleep-refused : unknown e ≡ false → (wakeful e && a) ≡ true → decoded a p e ≡ Refused 3
   unfolding decoded
   asleep-refused u w = rw (u, w)
 
-  pub disallowed-refused : unknown e ≡ false → (wakeful e && a) ≡ false → disallowed e ≡ true → decoded a e ≡ Refused 4
+  pub disallowed-refused : unknown e ≡ false → (wakeful e && a) ≡ false → disallowed p e ≡ true → decoded a p e ≡ Refused 4
   unfolding decoded
   disallowed-refused u w d = rw (u, w, d)
 
-  pub decoded-event : unknown e ≡ false → (wakeful e && a) ≡ false → disallowed e ≡ false → decoded a e ≡ event e
+  pub decoded-event : unknown e ≡ false → (wakeful e && a) ≡ false → disallowed p e ≡ false → decoded a p e ≡ event e
   unfolding decoded
   decoded-event u w d = rw (u, w, d)
 
@@ -97,64 +97,64 @@ module _ (e : List ℕ) (u : unknown e ≡ false) where
 -- ---- exactly these refusals
 
 -- The events: refusals 2, 3 and 4, each where its own test holds and none before it does.
-pub data Refusal (a : Bool) (e : List ℕ) : ℕ → Type 0 where
-  notKnown : unknown e ≡ true → Refusal a e 2
-  sleeping : unknown e ≡ false → (wakeful e && a) ≡ true → Refusal a e 3
-  notAllowed : unknown e ≡ false → (wakeful e && a) ≡ false → disallowed e ≡ true → Refusal a e 4
+pub data Refusal (a p : Bool) (e : List ℕ) : ℕ → Type 0 where
+  notKnown : unknown e ≡ true → Refusal a p e 2
+  sleeping : unknown e ≡ false → (wakeful e && a) ≡ true → Refusal a p e 3
+  notAllowed : unknown e ≡ false → (wakeful e && a) ≡ false → disallowed p e ≡ true → Refusal a p e 4
 
-pub refusal-given : (a : Bool) (e : List ℕ) {r : ℕ} → Refusal a e r → decoded a e ≡ Refused r
-refusal-given a e (notKnown u) = unknown-refused a e u
-refusal-given a e (sleeping u w) = asleep-refused a e u w
-refusal-given a e (notAllowed u w d) = disallowed-refused a e u w d
+pub refusal-given : (a p : Bool) (e : List ℕ) {r : ℕ} → Refusal a p e r → decoded a p e ≡ Refused r
+refusal-given a p e (notKnown u) = unknown-refused a p e u
+refusal-given a p e (sleeping u w) = asleep-refused a p e u w
+refusal-given a p e (notAllowed u w d) = disallowed-refused a p e u w d
 
 same-number : (m n : ℕ) → Refused m ≡ Refused n → m ≡ n
 same-number m n h = cc
 
-pub refusal-reason : (a : Bool) (e : List ℕ) (r : ℕ) → decoded a e ≡ Refused r → Refusal a e r
-refusal-reason a e r h = at (unknown e) (wakeful e && a) (disallowed e) refl refl refl
+pub refusal-reason : (a p : Bool) (e : List ℕ) (r : ℕ) → decoded a p e ≡ Refused r → Refusal a p e r
+refusal-reason a p e r h = at (unknown e) (wakeful e && a) (disallowed p e) refl refl refl
   where
-    found : (n : ℕ) → Refusal a e n → Refusal a e r
-    found n p = subst (Refusal a e) (same-number n r (sym (refusal-given a e p) ∙ h)) p
+    found : (n : ℕ) → Refusal a p e n → Refusal a p e r
+    found n x = subst (Refusal a p e) (same-number n r (sym (refusal-given a p e x) ∙ h)) x
 
-    at : (u w d : Bool) → unknown e ≡ u → (wakeful e && a) ≡ w → disallowed e ≡ d → Refusal a e r
-    at true w d p q s = found 2 (notKnown p)
-    at false true d p q s = found 3 (sleeping p q)
-    at false false true p q s = found 4 (notAllowed p q s)
-    at false false false p q s = absurd (never-refused e p r (sym (decoded-event a e p q s) ∙ h))
+    at : (u w d : Bool) → unknown e ≡ u → (wakeful e && a) ≡ w → disallowed p e ≡ d → Refusal a p e r
+    at true w d x q s = found 2 (notKnown x)
+    at false true d x q s = found 3 (sleeping x q)
+    at false false true x q s = found 4 (notAllowed x q s)
+    at false false false x q s = absurd (never-refused e x r (sym (decoded-event a p e x q s) ∙ h))
 
-number-of : {a : Bool} {e : List ℕ} {r : ℕ} → Refusal a e r → (r ≡ 2) ⊎ ((r ≡ 3) ⊎ (r ≡ 4))
+number-of : {a p : Bool} {e : List ℕ} {r : ℕ} → Refusal a p e r → (r ≡ 2) ⊎ ((r ≡ 3) ⊎ (r ≡ 4))
 number-of (notKnown u) = inl refl
 number-of (sleeping u w) = inr (inl refl)
 number-of (notAllowed u w d) = inr (inr refl)
 
-pub refused-number : (a : Bool) (e : List ℕ) (r : ℕ) → decoded a e ≡ Refused r → (r ≡ 2) ⊎ ((r ≡ 3) ⊎ (r ≡ 4))
-refused-number a e r h = number-of (refusal-reason a e r h)
+pub refused-number : (a p : Bool) (e : List ℕ) (r : ℕ) → decoded a p e ≡ Refused r → (r ≡ 2) ⊎ ((r ≡ 3) ⊎ (r ≡ 4))
+refused-number a p e r h = number-of (refusal-reason a p e r h)
 
 -- ---- and exactly these events
 
 -- None of the three tests holds, and the event is that of the bytes.
-pub record Accepted (a : Bool) (e : List ℕ) (v : Event) : Type 0 where
+pub record Accepted (a p : Bool) (e : List ℕ) (v : Event) : Type 0 where
   pub known : unknown e ≡ false
   pub awake : (wakeful e && a) ≡ false
-  pub fair : disallowed e ≡ false
+  pub fair : disallowed p e ≡ false
   pub same : v ≡ event e
 
-pub accepted : (a : Bool) (e : List ℕ) (v : Event) → decoded a e ≡ v → isRefused v ≡ false → Accepted a e v
-accepted a e v h n = at (unknown e) (wakeful e && a) (disallowed e) refl refl refl
+pub accepted : (a p : Bool) (e : List ℕ) (v : Event) → decoded a p e ≡ v → isRefused v ≡ false → Accepted a p e v
+accepted a p e v h n = at (unknown e) (wakeful e && a) (disallowed p e) refl refl refl
   where
-    refused : (r : ℕ) → Refusal a e r → Accepted a e v
-    refused r p = absurd (false≢true (sym n ∙ ap isRefused (sym h ∙ refusal-given a e p)))
+    refused : (r : ℕ) → Refusal a p e r → Accepted a p e v
+    refused r x = absurd (false≢true (sym n ∙ ap isRefused (sym h ∙ refusal-given a p e x)))
 
-    at : (u w d : Bool) → unknown e ≡ u → (wakeful e && a) ≡ w → disallowed e ≡ d → Accepted a e v
-    at true w d p q s = refused 2 (notKnown p)
-    at false true d p q s = refused 3 (sleeping p q)
-    at false false true p q s = refused 4 (notAllowed p q s)
-    at false false false p q s = record { known = p; awake = q; fair = s; same = sym h ∙ decoded-event a e p q s }
+    at : (u w d : Bool) → unknown e ≡ u → (wakeful e && a) ≡ w → disallowed p e ≡ d → Accepted a p e v
+    at true w d x q s = refused 2 (notKnown x)
+    at false true d x q s = refused 3 (sleeping x q)
+    at false false true x q s = refused 4 (notAllowed x q s)
+    at false false false x q s = record { known = x; awake = q; fair = s; same = sym h ∙ decoded-event a p e x q s }
 
 -- The events, refusal 3: no write and no change of the options is accepted asleep.
-pub write-awake : (a : Bool) (e : List ℕ) (v : Event) → decoded a e ≡ v → wakefulAs (operationOf v) ≡ true → a ≡ false
-write-awake a e v h w =
-    let real : isRefused v ≡ false = ne-eqb (operationOf v) operations (λ p. false≢true (sym (ap wakefulAs p) ∙ w)) in
-    let x = accepted a e v h real in
-    let p : wakeful e ≡ true = ap wakefulAs (sym (ap operationOf (x .same) ∙ case-of e (x .known))) ∙ w in
-    rw p at (x .awake)
+pub write-awake : (a p : Bool) (e : List ℕ) (v : Event) → decoded a p e ≡ v → wakefulAs (operationOf v) ≡ true → a ≡ false
+write-awake a p e v h w =
+    let real : isRefused v ≡ false = ne-eqb (operationOf v) operations (λ o. false≢true (sym (ap wakefulAs o) ∙ w)) in
+    let x = accepted a p e v h real in
+    let k : wakeful e ≡ true = ap wakefulAs (sym (ap operationOf (x .same) ∙ case-of e (x .known))) ∙ w in
+    rw k at (x .awake)

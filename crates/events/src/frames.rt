@@ -1,6 +1,6 @@
 // Frame events.
 ghost use mathlib.Core.Path.{_≡_};
-ghost use mathlib.Core.Bool.{_&&_};
+ghost use mathlib.Core.Bool.{false, _&&_};
 ghost use lib.ListN.{length};
 ghost use Rattle.events.specs.Parts.{eventBytes, frameOf, frameAllowed};
 ghost use Rattle.events.specs.Decode.{quietAs, allowedAs, decodedAs, frameRefusal};
@@ -39,7 +39,7 @@ fn is_frame_allowed(e: &[u8]) -> bool
 // Is what it does not use zero, and what it uses allowed?
 fn is_frame_taken(e: &[u8]) -> bool
     requires { ⌜ length (now e) ≡ eventBytes ⌝ }
-    ensures { λ r. ⌜ r ≡ (quietAs 2 (now (e .entry)) && allowedAs 2 (now (e .entry))) ⌝ }
+    ensures { λ r. ⌜ r ≡ (quietAs 2 (now (e .entry)) && allowedAs 2 false (now (e .entry))) ⌝ }
 {
     let n = mailboxes::data_bytes(bits::test(value(e), 30), target(e));
     quiet(e, true, false, true, n) & is_frame_allowed(e)
@@ -48,7 +48,7 @@ fn is_frame_taken(e: &[u8]) -> bool
 // Operation 2.
 pub fn frame_event(asleep: bool, e: &[u8]) -> Event
     requires { ⌜ length (now e) ≡ eventBytes ⌝ }
-    ensures { λ r. ⌜ r ≡ decodedAs 2 asleep (now (e .entry)) ⌝ }
+    ensures { λ r. ⌜ r ≡ decodedAs 2 asleep false (now (e .entry)) ⌝ }
 {
     if is_frame_taken(e) {
         Event::Heard { frame: frame_of(e) }

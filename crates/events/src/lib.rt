@@ -57,7 +57,7 @@ fn judged(allowed: bool, event: Event) -> Event
 // Operation 4.
 fn outcome_event(asleep: bool, e: &[u8]) -> Event
     requires { ⌜ length (now e) ≡ eventBytes ⌝ }
-    ensures { λ r. ⌜ r ≡ decodedAs 4 asleep (now (e .entry)) ⌝ }
+    ensures { λ r. ⌜ r ≡ decodedAs 4 asleep false (now (e .entry)) ⌝ }
 {
     let kind = target(e);
     if !(kind <= 3) {
@@ -69,7 +69,7 @@ fn outcome_event(asleep: bool, e: &[u8]) -> Event
 // Operation 5.
 fn receive_error_event(asleep: bool, e: &[u8]) -> Event
     requires { ⌜ length (now e) ≡ eventBytes ⌝ }
-    ensures { λ r. ⌜ r ≡ decodedAs 5 asleep (now (e .entry)) ⌝ }
+    ensures { λ r. ⌜ r ≡ decodedAs 5 asleep false (now (e .entry)) ⌝ }
 {
     let v = value(e);
     judged(
@@ -81,7 +81,7 @@ fn receive_error_event(asleep: bool, e: &[u8]) -> Event
 // Operation 8.
 fn mode_event(asleep: bool, e: &[u8]) -> Event
     requires { ⌜ length (now e) ≡ eventBytes ⌝ }
-    ensures { λ r. ⌜ r ≡ decodedAs 8 asleep (now (e .entry)) ⌝ }
+    ensures { λ r. ⌜ r ≡ decodedAs 8 asleep false (now (e .entry)) ⌝ }
 {
     let v = value(e);
     judged(
@@ -98,16 +98,16 @@ fn plain_event(e: &[u8], event: Event) -> Event
     judged(quiet(e, false, false, false, 0), event)
 }
 
-// Any bytes of any length, given whether the unit sleeps.
-pub fn decode(asleep: bool, e: &[u8]) -> Event
-    ensures { λ r. ⌜ r ≡ decoded asleep (now (e .entry)) ⌝ }
+// Any bytes of any length, given whether the unit sleeps and whether it is an eCAN.
+pub fn decode(asleep: bool, ecan: bool, e: &[u8]) -> Event
+    ensures { λ r. ⌜ r ≡ decoded asleep ecan (now (e .entry)) ⌝ }
 {
     if e.len() != 16 {
         return Event::Refused { number: 2 };
     }
     let op = words::byte_at(e, 0);
     match op {
-        0 => register_event(asleep, e),
+        0 => register_event(asleep, ecan, e),
         1 => mailbox_event(asleep, e),
         2 => frame_event(asleep, e),
         3 => plain_event(e, Event::Start),

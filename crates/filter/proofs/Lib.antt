@@ -2,5 +2,7 @@
 pub mod Matching
 pub mod Rest
 pub mod Search
+pub mod Turning
+pub mod Passed
 pub mod Walk
 pub mod Ways

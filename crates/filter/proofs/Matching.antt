@@ -14,11 +14,14 @@ use Rattle.bits.specs.Below.{allBelow}
 use Rattle.bits.proofs.Laws.{bit-and, bit-or, bit-xor, bit-without, bit-zero, bit-high, bit-flag, same-bits, same-below, or-below, flag-above}
 use Rattle.bits.proofs.Sets.{and-l, and-r}
 use Rattle.bits.proofs.Below.{each-below}
+use mathlib.Core.List.{List}
 use Rattle.registers.specs.declared.Block.{Block}
+use Rattle.registers.specs.Block.{maskWord}
+use Rattle.registers.specs.Status.{ecan}
 use Rattle.mailboxes.specs.Mailbox.{ide, maskable, identifier}
 use Rattle.mailboxes.specs.Arbitration.{identifierOf, base}
 use Rattle.events.specs.declared.Frame.{Frame}
-use Rattle.filter.specs.Filter.{lastMailbox, maskFor, freed, compared, frameWord, differing, matches}
+use Rattle.filter.specs.Filter.{lastMailbox, maskFor, freedBy, compared, frameWord, differing, agreeing}
 
 -- ---- two tests that do not differ
 
@@ -48,47 +51,53 @@ none-seen a b false d h = rw (and-false (xor a b))
 -- ---- Receiving: a match, by bits
 
 -- every compared bit that is not freed agrees
-abbrev pub Agrees : Block → Frame → ℕ → ℕ → Type 0
-Agrees b f n w =
-    (i : ℕ) → bit (compared f) i ≡ true → bit (freed b n w) i ≡ false → bit w i ≡ bit (frameWord f) i
+abbrev pub Agrees : ℕ → Frame → ℕ → Type 0
+Agrees m f w =
+    (i : ℕ) → bit (compared f) i ≡ true → bit (freedBy m w) i ≡ false → bit w i ≡ bit (frameWord f) i
 
-module _ (b : Block) (f : Frame) (n w : ℕ) where
-  pub seen : (i : ℕ) → bit (differing (maskFor b n) f w) i
-      ≡ ((xor (bit w i) (bit (frameWord f) i) && bit (compared f) i) && not (bit (freed b n w) i))
+module _ (m : ℕ) (f : Frame) (w : ℕ) where
+  pub seen : (i : ℕ) → bit (differing m f w) i
+      ≡ ((xor (bit w i) (bit (frameWord f) i) && bit (compared f) i) && not (bit (freedBy m w) i))
   seen i =
-      bit-without (bitAnd (bitXor w (frameWord f)) (compared f)) (freed b n w) i
-      ∙ ap (λ (x : Bool). x && not (bit (freed b n w) i))
+      bit-without (bitAnd (bitXor w (frameWord f)) (compared f)) (freedBy m w) i
+      ∙ ap (λ (x : Bool). x && not (bit (freedBy m w) i))
       (bit-and (bitXor w (frameWord f)) (compared f) i
       ∙ ap (λ (x : Bool). x && bit (compared f) i) (bit-xor w (frameWord f) i))
 
-  pub match-agrees : matches b f n w ≡ true → Agrees b f n w
-  unfolding matches
+  pub match-agrees : agreeing m f w ≡ true → Agrees m f w
   match-agrees h i p q =
-      let e = eqb-true (differing (maskFor b n) f w) 0 h in
-      unseen (bit w i) (bit (frameWord f) i) (bit (compared f) i) (bit (freed b n w) i)
+      let e = eqb-true (differing m f w) 0 h in
+      unseen (bit w i) (bit (frameWord f) i) (bit (compared f) i) (bit (freedBy m w) i)
       (sym (seen i) ∙ ap (λ (x : ℕ). bit x i) e ∙ bit-zero i) p q
 
-  pub agrees-match : Agrees b f n w → matches b f n w ≡ true
-  unfolding matches
+  pub agrees-match : Agrees m f w → agreeing m f w ≡ true
   agrees-match h =
-      eq-eqb (differing (maskFor b n) f w) 0
-      (same-bits (differing (maskFor b n) f w) 0
+      eq-eqb (differing m f w) 0
+      (same-bits (differing m f w) 0
       (λ i.
       seen i
-      ∙ none-seen (bit w i) (bit (frameWord f) i) (bit (compared f) i) (bit (freed b n w) i) (h i)
+      ∙ none-seen (bit w i) (bit (frameWord f) i) (bit (compared f) i) (bit (freedBy m w) i) (h i)
       ∙ sym (bit-zero i)))
 
--- ---- Receiving: which bits are freed: without GAME or LAME none, with it those of LAM at the last mailbox, of GAM elsewhere
+-- ---- Receiving: which bits are freed: without GAME or LAME none, with it those of the mask: of a CAN-B those of LAM at the last
+-- mailbox and of GAM elsewhere, of an eCAN those of the mailbox's own
 
-module _ (b : Block) (n w : ℕ) where
-  pub freed-none : maskable w ≡ false → freed b n w ≡ 0
+module _ (m w : ℕ) where
+  pub freed-none : maskable w ≡ false → freedBy m w ≡ 0
   freed-none h = rw h
 
-  pub freed-last : maskable w ≡ true → n ≡ lastMailbox → freed b n w ≡ b .lam
-  freed-last h e = rw (h, eq-eqb n lastMailbox e)
+  pub freed-mask : maskable w ≡ true → freedBy m w ≡ m
+  freed-mask h = rw h
 
-  pub freed-other : maskable w ≡ true → n ≢ lastMailbox → freed b n w ≡ b .gam
-  freed-other h d = rw (h, ne-eqb n lastMailbox d)
+module _ (s : List ℕ) (b : Block) (n : ℕ) where
+  pub mask-last : ecan b ≡ false → n ≡ lastMailbox → maskFor s b n ≡ b .lam
+  mask-last p e = rw (p, eq-eqb n lastMailbox e)
+
+  pub mask-other : ecan b ≡ false → n ≢ lastMailbox → maskFor s b n ≡ b .gam
+  mask-other p d = rw (p, ne-eqb n lastMailbox d)
+
+  pub mask-own : ecan b ≡ true → maskFor s b n ≡ maskWord s n
+  mask-own p = rw p
 
 -- ---- Receiving: which bits are compared, and the frame's own bits
 
@@ -164,9 +173,9 @@ module _ (lo len : ℕ) where
 
 -- ---- Receiving: a match without a mask
 
-module _ (b : Block) (f : Frame) (n w : ℕ) (fits : f .id .0 < 2 ^ 29) (bare : maskable w ≡ false) where
-  none-freed : (i : ℕ) → bit (freed b n w) i ≡ false
-  none-freed i = ap (λ (x : ℕ). bit x i) (freed-none b n w bare) ∙ bit-zero i
+module _ (m : ℕ) (f : Frame) (w : ℕ) (fits : f .id .0 < 2 ^ 29) (bare : maskable w ≡ false) where
+  none-freed : (i : ℕ) → bit (freedBy m w) i ≡ false
+  none-freed i = ap (λ (x : ℕ). bit x i) (freed-none m w bare) ∙ bit-zero i
 
   -- the identifier bits that both have, by the frame's format
   abbrev SameBits : Type 0
@@ -184,16 +193,16 @@ module _ (b : Block) (f : Frame) (n w : ℕ) (fits : f .id .0 < 2 ^ 29) (bare : 
       ∙ ap (λ (x : Bool). (f .ide && x) || bit (f .id .0) i) (ne-eqb i 31 (λ q. omega arith))
       ∙ ap (λ (x : Bool). x || bit (f .id .0) i) (and-false (f .ide))
 
-  match-ide : matches b f n w ≡ true → ide w ≡ f .ide
-  match-ide h = match-agrees b f n w h 31 (compared-bit f 31) (none-freed 31) ∙ frame-ide
+  match-ide : agreeing m f w ≡ true → ide w ≡ f .ide
+  match-ide h = match-agrees m f w h 31 (compared-bit f 31) (none-freed 31) ∙ frame-ide
 
-  match-bits : matches b f n w ≡ true → SameBits
+  match-bits : agreeing m f w ≡ true → SameBits
   match-bits h i l t =
-      match-agrees b f n w h i (compared-bit f i ∙ rw (lt-ltb i 29 l, t) (or-true (eqb i 31))) (none-freed i)
+      match-agrees m f w h i (compared-bit f i ∙ rw (lt-ltb i 29 l, t) (or-true (eqb i 31))) (none-freed i)
       ∙ frame-identifier i l
 
-  bare-match : ide w ≡ f .ide → SameBits → matches b f n w ≡ true
-  bare-match e h = agrees-match b f n w (λ i p q. at i (sym (compared-bit f i) ∙ p) (eqb i 31) refl)
+  bare-match : ide w ≡ f .ide → SameBits → agreeing m f w ≡ true
+  bare-match e h = agrees-match m f w (λ i p q. at i (sym (compared-bit f i) ∙ p) (eqb i 31) refl)
     where
       at : (i : ℕ) → isComparedBit (f .ide) i ≡ true → (t : Bool) → eqb i 31 ≡ t → bit w i ≡ bit (frameWord f) i
       at i p true q =
@@ -209,7 +218,7 @@ module _ (b : Block) (f : Frame) (n w : ℕ) (fits : f .id .0 < 2 ^ 29) (bare : 
     of-word : base (identifierOf w) ≡ w / 2 ^ 18 % 2 ^ 11
     of-word = omega arith
 
-    pub standard-match : matches b f n w ≡ true → (ide w ≡ false) × (base (identifierOf w) ≡ base (f .id))
+    pub standard-match : agreeing m f w ≡ true → (ide w ≡ false) × (base (identifierOf w) ≡ base (f .id))
     standard-match h = (
       match-ide h ∙ standard,
       of-word
@@ -217,20 +226,20 @@ module _ (b : Block) (f : Frame) (n w : ℕ) (fits : f .id .0 < 2 ^ 29) (bare : 
           (λ i l. match-bits h (18 + i) (omega arith) (rw (standard, le-leb 18 (18 + i) (omega arith)))),
     )
 
-    pub match-standard : ide w ≡ false → base (identifierOf w) ≡ base (f .id) → matches b f n w ≡ true
+    pub match-standard : ide w ≡ false → base (identifierOf w) ≡ base (f .id) → agreeing m f w ≡ true
     match-standard e q =
         bare-match (e ∙ sym standard)
         (λ i l t. field-same 18 11 w (f .id .0) (sym of-word ∙ q) i (leb-true 18 i (rw standard at t)) (omega arith))
 
   -- an extended frame: IDE is up, and the identifiers are the same
   module _ (extended : f .ide ≡ true) where
-    pub extended-match : matches b f n w ≡ true → (ide w ≡ true) × (identifier w ≡ f .id .0)
+    pub extended-match : agreeing m f w ≡ true → (ide w ≡ true) × (identifier w ≡ f .id .0)
     extended-match h =
         let e : w / 2 ^ 0 % 2 ^ 29 ≡ f .id .0 / 2 ^ 0 % 2 ^ 29 =
         same-field 0 29 w (f .id .0) (λ i l. match-bits h (0 + i) (omega arith) (rw extended)) in
         (match-ide h ∙ extended, omega arith)
 
-    pub match-extended : ide w ≡ true → identifier w ≡ f .id .0 → matches b f n w ≡ true
+    pub match-extended : ide w ≡ true → identifier w ≡ f .id .0 → agreeing m f w ≡ true
     match-extended e q =
         let k : w / 2 ^ 0 % 2 ^ 29 ≡ f .id .0 / 2 ^ 0 % 2 ^ 29 = omega arith in
         bare-match (e ∙ sym extended) (λ i l t. field-same 0 29 w (f .id .0) k i (omega arith) (omega arith))

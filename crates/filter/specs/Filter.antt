@@ -1,13 +1,14 @@
 -- Which mailbox a frame goes to.
-use Prim.Native.Nat.{ℕ, suc, _+_}
-use mathlib.Core.Bool.{Bool, cond, _&&_}
+use Prim.Native.Nat.{ℕ, suc, _+_, _-_}
+use mathlib.Core.Bool.{Bool, cond, not, _&&_}
 use mathlib.Core.List.{List}
 use lib.Dec.{eqb, ltb}
 use lib.Bits.{bitAnd, bitXor}
 use Rattle.bits.specs.Bit.{bit, without, flag}
 use Rattle.bits.specs.Below.{countBelow, firstBelow}
 use Rattle.registers.specs.declared.Block.{Block}
-use Rattle.registers.specs.Block.{blockOf}
+use Rattle.registers.specs.Block.{maskWord, blockOf}
+use Rattle.registers.specs.Status.{ecan}
 use Rattle.registers.specs.Modes.{onBus}
 use Rattle.mailboxes.specs.Mailbox.{mailboxes, mailboxWord, maskable, rfh}
 use Rattle.events.specs.declared.Frame.{Frame}
@@ -21,19 +22,23 @@ use Rattle.filter.specs.declared.Delivery.the-variants.{Into, Reply, Now
 unfoldable pub candidates : Block → Frame → ℕ
 candidates b f = cond (f .rtr) (b .mc) (bitAnd (b .mc) (b .md))
 
--- Receiving: the mask of a mailbox: LAM for the last one, GAM for the others.
+-- Receiving: the order of the search. The mailbox at place k is mailbox k of a CAN-B; an eCAN begins with the highest number.
 abbrev pub lastMailbox : ℕ
 lastMailbox = 31
 
-abbrev pub maskFor : Block → ℕ → ℕ
-maskFor b n = cond (eqb n lastMailbox) (b .lam) (b .gam)
+unfoldable pub seat : Block → ℕ → ℕ
+seat b k = cond (ecan b) (lastMailbox - k) k
+
+-- Receiving: the mask of a mailbox: of a CAN-B LAM for the last one and GAM for the others, of an eCAN its own.
+abbrev pub sharedMask : Block → ℕ → ℕ
+sharedMask b n = cond (eqb n lastMailbox) (b .lam) (b .gam)
+
+abbrev pub maskFor : List ℕ → Block → ℕ → ℕ
+maskFor s b n = cond (ecan b) (maskWord s n) (sharedMask b n)
 
 -- Receiving: the bits of word 0, w, that need not agree: those of the mask, at a mailbox whose GAME or LAME bit is up.
 abbrev pub freedBy : ℕ → ℕ → ℕ
 freedBy mask w = cond (maskable w) mask 0
-
-abbrev pub freed : Block → ℕ → ℕ → ℕ
-freed b n w = freedBy (maskFor b n) w
 
 -- Receiving: the bits of word 0 that are compared: IDE, and of the identifier the upper 11 if the frame is standard, all 29 if it
 -- is extended.
@@ -52,25 +57,45 @@ differing mask f w = without (bitAnd (bitXor w (frameWord f)) (compared f)) (fre
 abbrev pub agreeing : ℕ → Frame → ℕ → Bool
 agreeing mask f w = eqb (differing mask f w) 0
 
--- Receiving: mailbox n, whose word 0 is w, matches the frame.
-unfoldable pub matches : Block → Frame → ℕ → ℕ → Bool
-matches b f n w = agreeing (maskFor b n) f w
+-- Receiving: mailbox n matches the frame.
+unfoldable pub matches : List ℕ → Frame → ℕ → Bool
+matches s f n = agreeing (maskFor s (blockOf s) n) f (mailboxWord s n 0)
 
--- Receiving: mailbox n is compared with the frame and matches it.
+-- Receiving, overwrite protection: the mailboxes of an eCAN that pass a matching frame over, as a flag word: those that receive,
+-- hold a frame and are protected.
+unfoldable pub guarded : Block → ℕ
+guarded b = cond (ecan b) (bitAnd (bitAnd (b .protection) (b .rmp)) (b .md)) 0
+
+-- Receiving: mailbox n matches the frame and does not pass it over.
+unfoldable pub takes : List ℕ → Frame → ℕ → Bool
+takes s f n = matches s f n && not (bit (guarded (blockOf s)) n)
+
+-- Receiving: mailbox n is compared with the frame and takes it.
 unfoldable pub hits : List ℕ → Frame → ℕ → Bool
-hits s f n = bit (candidates (blockOf s) f) n && matches (blockOf s) f n (mailboxWord s n 0)
+hits s f n = bit (candidates (blockOf s) f) n && takes s f n
 
--- Receiving: how many of the mailboxes below n were compared.
-abbrev pub comparedBelow : List ℕ → Frame → ℕ → ℕ
-comparedBelow s f n = countBelow (bit (candidates (blockOf s) f)) n
+-- Receiving, overwrite protection: mailbox n is compared with the frame, matches it and passes it over.
+unfoldable pub passes : List ℕ → Frame → ℕ → Bool
+passes s f n = bit (candidates (blockOf s) f) n && (matches s f n && bit (guarded (blockOf s)) n)
 
--- Receiving: the search goes by the numbers, and the first match ends it; the count is that of the mailboxes compared, this one
--- included, or all of them where none matches.
+-- Receiving: how many of the mailboxes before place k were compared.
+abbrev pub comparedAt : List ℕ → Frame → ℕ → Bool
+comparedAt s f k = bit (candidates (blockOf s) f) (seat (blockOf s) k)
+
+abbrev pub comparedBefore : List ℕ → Frame → ℕ → ℕ
+comparedBefore s f k = countBelow (comparedAt s f) k
+
+-- Receiving: the search, place by place, stops at the first mailbox that takes the frame; the count is that of the mailboxes
+-- compared, this one and those that passed the frame over included, or all of them where none takes it.
 abbrev pub foundAt : List ℕ → Frame → ℕ → Found
-foundAt s f n = cond (ltb n mailboxes) (At n (comparedBelow s f (suc n))) (Missing (comparedBelow s f mailboxes))
+foundAt s f k =
+    cond (ltb k mailboxes) (At (seat (blockOf s) k) (comparedBefore s f (suc k))) (Missing (comparedBefore s f mailboxes))
+
+abbrev pub hitsAt : List ℕ → Frame → ℕ → Bool
+hitsAt s f k = hits s f (seat (blockOf s) k)
 
 unfoldable pub found : List ℕ → Frame → Found
-found s f = foundAt s f (firstBelow (hits s f) mailboxes)
+found s f = foundAt s f (firstBelow (hitsAt s f) mailboxes)
 
 -- Receiving: a mailbox that receives stores the frame; one that transmits is asked for a reply where it has RFH, and otherwise
 -- the frame goes nowhere, and the count is kept.
@@ -78,6 +103,11 @@ unfoldable pub placed : List ℕ → Found → Delivery
 placed s (At n c) =
     cond (bit (blockOf s .md) n) (Into n c) (cond (rfh (mailboxWord s n 0)) (Reply n c) (Nowhere c))
 placed s (Missing c) = Nowhere c
+
+-- Receiving, overwrite protection: a frame that is heard and that every matching mailbox passes over, at least one.
+unfoldable pub passedOver : List ℕ → Frame → Bool
+passedOver s f =
+    onBus (blockOf s) && (ltb 0 (countBelow (passes s f) mailboxes) && eqb (countBelow (hits s f) mailboxes) 0)
 
 -- Receiving: a frame is heard in normal mode, unless the unit is bus off; else it goes nowhere and is compared with nothing.
 unfoldable pub delivery : List ℕ → Frame → Delivery

@@ -1,2 +1,3 @@
 -- Filtering.
 pub mod Filter
+pub mod Parts

@@ -1,10 +1,13 @@
 // Filtering: which mailbox a frame goes to.
 ghost use mathlib.Core.Path.{_≡_};
-ghost use mathlib.Core.Bool.{false};
+ghost use mathlib.Core.Bool.{false, cond};
 ghost use Prim.Native.Nat.{ℕ, _<_};
 ghost use lib.ListN.{length};
-ghost use Rattle.registers.specs.Block.{imageBytes, blockOf};
-ghost use Rattle.filter.specs.Filter.{candidates as candidatesOf, compared as comparedOf, frameWord, lastMailbox, differing as differingOf, agreeing, hits, comparedBelow, found, placed, delivery};
+ghost use Rattle.registers.specs.Block.{imageBytes, maskWord, blockOf};
+ghost use Rattle.bits.specs.Bit.{bit};
+ghost use Rattle.registers.specs.Status.{ecan};
+ghost use Rattle.filter.specs.Filter.{candidates as candidatesOf, compared as comparedOf, frameWord, lastMailbox, seat as seatOf, differing as differingOf, agreeing, guarded as guardedOf, hitsAt, comparedAt, comparedBefore, found, placed, delivery};
+ghost use Rattle.filter.specs.Parts.{Reversed, Turned, takesBy};
 use events::Frame;
 use registers::Block;
 
@@ -60,32 +63,92 @@ fn agrees(mask: u32, f: Frame, w: u32) -> bool
     differing(mask, f, w) == 0
 }
 
-// Mailbox 31, which has a mask of its own, once those before it do not match.
+// The mailbox at place k of the search.
+fn seat(b: Block, k: u32) -> u32
+    requires { ⌜ k < 32 ⌝ }
+    ensures { λ r. ⌜ r ≡ seatOf b k ⌝ }
+{
+    bits::choose(b.is_ecan(), 31 - k, k)
+}
+
+// The mask of mailbox n, where `own` is that of a CAN-B.
+fn mask_at(s: &[u8], b: Block, own: u32, n: u32) -> u32
+    requires { ⌜ (length (now s) ≡ imageBytes) × (n < 32) ⌝ }
+    ensures { λ r. ⌜ r ≡ cond (ecan b) (maskWord (now (s .entry)) n) own ⌝ }
+{
+    if b.is_ecan() {
+        return words::word_at(s, registers::MASKS_AT + 4 * (n as usize));
+    }
+    own
+}
+
+// The mailboxes that pass a matching frame over.
+fn guarded(b: Block) -> u32
+    ensures { λ r. ⌜ r ≡ guardedOf b ⌝ }
+{
+    bits::choose(b.is_ecan(), b.protection & b.rmp & b.md, 0)
+}
+
+// Does the mailbox at place k take the frame, where `own` is its mask in a CAN-B?
+fn takes(s: &[u8], b: Block, f: Frame, own: u32, k: u32) -> bool
+    requires { ⌜ (length (now s) ≡ imageBytes) × (f .id .0 < 536870912) × (k < 32) ⌝ }
+    ensures { λ r. ⌜ r ≡ takesBy (now (s .entry)) b f own k ⌝ }
+{
+    let n = seat(b, k);
+    agrees(mask_at(s, b, own, n), f, mailboxes::word(s, n as usize, 0)) & !bits::test(guarded(b), n)
+}
+
+// w with its bits in the other order.
+fn reversed(w: u32) -> u32
+    ensures { λ r. ⌜ Reversed w r ⌝ }
+{
+    let mut rest = w;
+    let mut r: u32 = 0;
+    let mut i: u32 = 0;
+    while i < 32 {
+        r = r % 0x8000_0000 * 2 + rest % 2;
+        rest = rest / 2;
+        i += 1;
+    }
+    r
+}
+
+// A flag word with the mailbox at place k in bit k.
+fn turned(b: Block, w: u32) -> u32
+    ensures { λ r. ⌜ Turned b w r ⌝ }
+{
+    if b.is_ecan() {
+        return reversed(w);
+    }
+    w
+}
+
+// The last place, whose mailbox has a mask of its own in a CAN-B too, once those before it do not take the frame.
 fn last(s: &[u8], b: Block, f: Frame, pool: u32, count: u32) -> Found
-    requires { ⌜ (length (now s) ≡ imageBytes) × (b ≡ blockOf (now s)) × (f .id .0 < 536870912) × (pool ≡ candidatesOf b f) × (count ≡ comparedBelow (now s) f lastMailbox) × ((j : ℕ) → j < lastMailbox → hits (now s) f j ≡ false) ⌝ }
+    requires { ⌜ (length (now s) ≡ imageBytes) × (b ≡ blockOf (now s)) × (f .id .0 < 536870912) × ((k : ℕ) → k < 32 → bit pool k ≡ comparedAt (now s) f k) × (count ≡ comparedBefore (now s) f lastMailbox) × ((j : ℕ) → j < lastMailbox → hitsAt (now s) f j ≡ false) ⌝ }
     ensures { λ r. ⌜ r ≡ found (now (s .entry)) f ⌝ }
 {
     if pool < 0x8000_0000 {
         return Found::Missing { count };
     }
-    if agrees(b.lam, f, mailboxes::word(s, 31, 0)) {
+    if takes(s, b, f, b.lam, 31) {
         return Found::At {
-            mailbox: 31,
+            mailbox: seat(b, 31),
             count: count + 1,
         };
     }
     Found::Missing { count: count + 1 }
 }
 
-// The search, from mailbox 0 upwards, two mailboxes a turn: it stops at the first that matches. `rest` has the candidates from
-// n on that GAM masks, mailbox n's lowest.
+// The search, place by place, two a turn: it stops at the first mailbox that takes the frame. `rest` has the candidates from
+// place k on but the last one, that of place k lowest.
 pub fn find(s: &[u8], b: Block, f: Frame) -> Found
     requires { ⌜ (length (now s) ≡ imageBytes) × (b ≡ blockOf (now s)) × (f .id .0 < 536870912) ⌝ }
     ensures { λ r. ⌜ r ≡ found (now (s .entry)) f ⌝ }
 {
-    let pool = candidates(b, f);
+    let pool = turned(b, candidates(b, f));
     let mut rest = pool % 0x8000_0000;
-    let mut n: u32 = 0;
+    let mut k: u32 = 0;
     let mut count: u32 = 0;
     loop {
         if rest == 0 {
@@ -93,21 +156,24 @@ pub fn find(s: &[u8], b: Block, f: Frame) -> Found
         }
         if rest % 2 == 1 {
             count += 1;
-            if agrees(b.gam, f, mailboxes::word(s, n as usize, 0)) {
-                break Found::At { mailbox: n, count };
+            if takes(s, b, f, b.gam, k) {
+                break Found::At {
+                    mailbox: seat(b, k),
+                    count,
+                };
             }
         }
         if rest / 2 % 2 == 1 {
             count += 1;
-            if agrees(b.gam, f, mailboxes::word(s, n as usize + 1, 0)) {
+            if takes(s, b, f, b.gam, k + 1) {
                 break Found::At {
-                    mailbox: n + 1,
+                    mailbox: seat(b, k + 1),
                     count,
                 };
             }
         }
         rest = rest / 4;
-        n += 2;
+        k += 2;
     }
 }
 

@@ -2,28 +2,34 @@
 use Prim.Native.Nat.{ℕ}
 use mathlib.Core.Bool.{cond}
 use mathlib.Core.List.{List, []}
-use lib.Dec.{eqb}
+use lib.Dec.{eqb, leb}
 use lib.ListN.{length, replicate}
 use Rattle.bits.specs.Bit.{mask}
 use Rattle.registers.specs.declared.Block.{Block}
-use Rattle.registers.specs.Block.{imageBytes, ofWords, putBlock, withMd, withMode, withWaiting, withSlot, configuration, noMode, emptySlot}
+use Rattle.registers.specs.Block.{imageBytes, ofWords, putBlock, withMd, withMode, withWaiting, withSlot, withProfile, configuration, noMode, emptySlot, eCan}
 use Rattle.answers.specs.Answer.{Outcome, refused, accepted}
 
--- The image, fresh: every register word zero, but bit 31 of MD up, the mode configuration, no mode waiting, the slot empty.
+-- The image, fresh: every register word zero, but bit 31 of a CAN-B's MD up, the mode configuration, no mode
+-- waiting, the slot empty; and the profile.
 abbrev pub zeroBlock : Block
 zeroBlock = ofWords []
 
-unfoldable pub freshBlock : Block
-freshBlock = withSlot (withWaiting (withMode (withMd zeroBlock (mask 31)) configuration) noMode) emptySlot
+abbrev pub freshMd : ℕ → ℕ
+freshMd profile = cond (eqb profile eCan) 0 (mask 31)
+
+unfoldable pub freshBlock : ℕ → Block
+freshBlock profile =
+    withProfile (withSlot (withWaiting (withMode (withMd zeroBlock (freshMd profile)) configuration) noMode) emptySlot) profile
 
 -- As many zero bytes as an image has.
 unfoldable pub zeroImage : List ℕ
 zeroImage = replicate imageBytes 0
 
 -- The image, fresh: zero bytes, with the register words of a fresh model.
-unfoldable pub freshImage : List ℕ
-freshImage = putBlock zeroImage freshBlock
+unfoldable pub freshImage : ℕ → List ℕ
+freshImage profile = putBlock zeroImage (freshBlock profile)
 
--- The image, fresh: any 640 bytes are filled; another length gets refusal 1.
-unfoldable pub fresh : List ℕ → Outcome
-fresh s = cond (eqb (length s) imageBytes) (accepted freshImage) (refused s 1)
+-- The image, fresh: any 776 bytes are filled; another length gets refusal 1, then another profile refusal 4.
+unfoldable pub fresh : List ℕ → ℕ → Outcome
+fresh s profile =
+    cond (eqb (length s) imageBytes) (cond (leb profile eCan) (accepted (freshImage profile)) (refused s 4)) (refused s 1)

@@ -1,20 +1,23 @@
 -- A good register block by its facts, one by one, both ways.
-use Prim.Native.Nat.{ℕ, _/_, _%_, _^_, _<_, _≤_}
-use mathlib.Core.Path.{_≡_, refl}
+use Prim.Native.Nat.{ℕ, _+_, _/_, _%_, _^_, _<_, _≤_}
+use mathlib.Core.Path.{_≡_, refl, sym, _∙_, ap}
 use mathlib.Core.Bool.{Bool, true, false, not, _&&_, _||_, false≢true}
 use mathlib.Core.List.{[], _∷_}
 use mathlib.Core.Logic.{_≢_}
 use native.Mathlib.Omega.{arith}
-use lib.Dec.{eqb, ltb, leb}
+use lib.Dec.{eqb, ltb, leb, lit<}
 use borrow.Author.Tests.{ltb-true, leb-true, eqb-true, eqb-false, lt-ltb, le-leb, eq-eqb, ne-eqb, not-true}
-use Rattle.bits.specs.Bit.{bit, mask}
-use Rattle.bits.proofs.Sets.{both, and-l, and-r, Within, Apart, within-word, word-within, apart-word, word-apart}
+use Rattle.bits.specs.Bit.{bit}
+use Rattle.bits.proofs.Laws.{bit-flag, bit-high}
+use Rattle.bits.proofs.Sets.{both, and-l, and-r, Within, Apart, within-word, word-within, apart-word, word-apart, within-mask}
 use Rattle.bits.specs.Tests.{every, implies}
 use Rattle.bits.proofs.Tests.{All, all, holds, given, implied}
 use Rattle.registers.specs.declared.Block.{Block}
-use Rattle.registers.specs.Block.{normal, sleep, noMode, emptySlot, busOffAt}
-use Rattle.registers.specs.Status.{filled, asleep, busOff}
-use Rattle.good.specs.Good.{lastNeverSends, flagsOfPending, maskGaps, ranges, states, slotAsks, sleepAsks, waitsForReason, flagClauses, numberClauses, slotClauses, goodFlags, goodNumbers, goodSlot, goodBlock}
+use Rattle.registers.specs.Block.{normal, sleep, noMode, emptySlot, busOffAt, canB, eCan}
+use Rattle.registers.specs.Status.{filled, ecan, asleep, busOff}
+use Rattle.registers.specs.Writes.{slotMask}
+use Rattle.registers.proofs.Laws.{Small}
+use Rattle.good.specs.Good.{lastReceives, flagsOfPending, maskGaps, ranges, states, slotAsks, sleepAsks, waitsForReason, flagClauses, numberClauses, slotClauses, goodFlags, goodNumbers, goodSlot, goodBlock}
 
 not-eqb : (n k : ℕ) → n ≢ k → not (eqb n k) ≡ true
 not-eqb n k h = rw (ne-eqb n k h)
@@ -22,7 +25,7 @@ not-eqb n k h = rw (ne-eqb n k h)
 -- ---- the facts, over the words that each clause names, so that a change elsewhere leaves them as they are
 
 -- words that no clause bounds further than their four bytes
-pub record Wide (c d p l g f m : ℕ) : Type 0 where
+pub record Wide (c d p l g f m o : ℕ) : Type 0 where
   pub mc : c < 2 ^ 32
   pub md : d < 2 ^ 32
   pub rmp : p < 2 ^ 32
@@ -30,19 +33,24 @@ pub record Wide (c d p l g f m : ℕ) : Type 0 where
   pub gam : g < 2 ^ 32
   pub mbrif : f < 2 ^ 32
   pub mbim : m < 2 ^ 32
+  pub protection : o < 2 ^ 32
 
 abbrev pub WideBlock : Block → Type 0
-WideBlock b = Wide (b .mc) (b .md) (b .rmp) (b .lam) (b .gam) (b .mbrif) (b .mbim)
+WideBlock b = Wide (b .mc) (b .md) (b .rmp) (b .lam) (b .gam) (b .mbrif) (b .mbim) (b .protection)
 
-pub record NeverSends (s r t a c m : ℕ) : Type 0 where
-  pub trs : s < 2 ^ 31
-  pub trr : r < 2 ^ 31
-  pub ta : t < 2 ^ 31
-  pub aa : a < 2 ^ 31
-  pub cdr : c < 2 ^ 31
-  pub mbtif : m < 2 ^ 31
+-- how many mailboxes can send, and so how many bits the words of sending have: 31 in a CAN-B, 32 in an eCAN
+abbrev pub senders : Block → ℕ
+senders b = 31 + b .profile
 
-pub record Ranges (gf gm b1 b2 ts te re mo sl rc op to : ℕ) : Type 0 where
+pub record Senders (k s r t a c m : ℕ) : Type 0 where
+  pub trs : s < 2 ^ k
+  pub trr : r < 2 ^ k
+  pub ta : t < 2 ^ k
+  pub aa : a < 2 ^ k
+  pub cdr : c < 2 ^ k
+  pub mbtif : m < 2 ^ k
+
+pub record Ranges (gf gm b1 b2 ts te re mo sl rc op to pr : ℕ) : Type 0 where
   pub gif : gf < 256
   pub gim : gm < 256
   pub bcr1 : b1 < 1024
@@ -51,10 +59,11 @@ pub record Ranges (gf gm b1 b2 ts te re mo sl rc op to : ℕ) : Type 0 where
   pub tec : te ≤ 256
   pub rec : re ≤ 255
   pub mode : mo ≤ 3
-  pub slot : sl ≤ 31
+  pub slot : sl ≤ emptySlot
   pub recovery : rc ≤ 127
   pub options : op ≤ 3
   pub tso : to ≤ 1
+  pub profile : pr ≤ eCan
 
 pub record Sending (mo te s m n : ℕ) : Type 0 where
   pub mode : mo ≡ normal
@@ -71,16 +80,16 @@ pub record Sleeping (te re s r : ℕ) : Type 0 where
 -- every clause but that of the waiting mode, which an outcome leaves open until the step's end
 pub record Core (b : Block) : Type 0 where
   pub wide : WideBlock b
-  pub md31 : 2 ^ 31 ≤ b .md
-  pub low : NeverSends (b .trs) (b .trr) (b .ta) (b .aa) (b .cdr) (b .mbtif)
+  pub md31 : b .profile ≡ canB → 2 ^ 31 ≤ b .md
+  pub low : Senders (senders b) (b .trs) (b .trr) (b .ta) (b .aa) (b .cdr) (b .mbtif)
   pub apart : Apart (b .trs) (b .md)
-  pub atSlot : Within (b .trr) (mask (b .slot))
+  pub atSlot : Within (b .trr) (slotMask b)
   pub ofRequest : Within (b .trr) (b .trs)
   pub rml : Within (b .rml) (b .rmp)
   pub rfp : Within (b .rfp) (b .rmp)
   pub lam : b .lam / 2 ^ 29 % 4 ≡ 0
   pub gam : b .gam / 2 ^ 29 % 4 ≡ 0
-  pub ranges : Ranges (b .gif) (b .gim) (b .bcr1) (b .bcr2) (b .tsc) (b .tec) (b .rec) (b .mode) (b .slot) (b .recovery) (b .options) (b .tso)
+  pub ranges : Ranges (b .gif) (b .gim) (b .bcr1) (b .bcr2) (b .tsc) (b .tec) (b .rec) (b .mode) (b .slot) (b .recovery) (b .options) (b .tso) (b .profile)
   pub slotted : b .slot ≢ emptySlot → Sending (b .mode) (b .tec) (b .trs) (b .mc) (b .slot)
   pub off : b .tec ≡ busOffAt → b .mode ≡ normal
   pub recovering : 0 < b .recovery → b .tec ≡ busOffAt
@@ -103,12 +112,12 @@ or-last s t h e = eqb-true t busOffAt (rw (eq-eqb s emptySlot e) at h)
 last-or : (s t : ℕ) → (s ≡ emptySlot → t ≡ busOffAt) → (not (eqb s emptySlot) || eqb t busOffAt) ≡ true
 last-or s t h = implied (eqb s emptySlot) (eqb t busOffAt) (λ p. eq-eqb t busOffAt (h (eqb-true s emptySlot p)))
 
-slot-fits : (b : Block) → goodNumbers b ≡ true → b .slot ≤ 31
+slot-fits : (b : Block) → goodNumbers b ≡ true → b .slot ≤ emptySlot
 unfolding goodNumbers
-slot-fits b h = leb-true (b .slot) 31 (all (states b) (all (numberClauses b) h .1 .0) .1 .1 .0)
+slot-fits b h = leb-true (b .slot) emptySlot (all (states b) (all (numberClauses b) h .1 .0) .1 .1 .0)
 
--- a slot that is no mailbox's number: not good, so the clauses that read a bit there need not be tried
-pub slot-too-high : (b : Block) → 31 < b .slot → goodBlock b ≡ false
+-- a slot that is neither a mailbox's number nor empty: not good, so the clauses that read a bit there need not be tried
+pub slot-too-high : (b : Block) → emptySlot < b .slot → goodBlock b ≡ false
 unfolding goodBlock
 slot-too-high b h = off (goodFlags b) (goodNumbers b) (goodSlot b) (λ p. let l = slot-fits b p in absurd (omega arith))
   where
@@ -117,13 +126,22 @@ slot-too-high b h = off (goodFlags b) (goodNumbers b) (goodSlot b) (λ p. let l 
     off true false z f = refl
     off false y z f = refl
 
-pub slot-below : (b : Block) → goodBlock b ≡ true → b .slot < 32
+pub slot-below : (b : Block) → goodBlock b ≡ true → b .slot ≤ emptySlot
 unfolding goodBlock
-slot-below b h =
-    let l = slot-fits b (all (goodFlags b ∷ goodNumbers b ∷ goodSlot b ∷ []) h .1 .0) in
-    omega arith
+slot-below b h = slot-fits b (all (goodFlags b ∷ goodNumbers b ∷ goodSlot b ∷ []) h .1 .0)
 
-module _ (b : Block) (w : WideBlock b) (h : goodBlock b ≡ true) where
+-- the flag word of a filled slot has the slot's own bit, so that a word has it exactly where it has all of the flag word
+pub slot-up : (b : Block) → b .slot ≢ emptySlot → bit (slotMask b) (b .slot) ≡ true
+slot-up b n = bit-flag (filled b) (b .slot) (b .slot) ∙ rw (ne-eqb (b .slot) emptySlot n, eq-eqb (b .slot) (b .slot) refl)
+
+slot-within : (b : Block) (w : ℕ) → filled b ≡ true → bit w (b .slot) ≡ true → Within (slotMask b) w
+slot-within b w p h = rw p (within-mask (b .slot) w h)
+
+-- a CAN-B has the profile 0, so that 31 mailboxes send; an eCAN has 1, so that all do
+can-b : (b : Block) → b .profile ≤ eCan → ecan b ≡ false → b .profile ≡ canB
+can-b b l p = let n = eqb-false (b .profile) eCan p in omega arith
+
+module _ (b : Block) (fit : Small b) (h : goodBlock b ≡ true) where
   groups : All (goodFlags b ∷ goodNumbers b ∷ goodSlot b ∷ [])
   unfolding goodBlock
   groups = all (goodFlags b ∷ goodNumbers b ∷ goodSlot b ∷ []) h
@@ -140,19 +158,42 @@ module _ (b : Block) (w : WideBlock b) (h : goodBlock b ≡ true) where
   unfolding goodSlot
   slots = all (slotClauses b) (groups .1 .1 .0)
 
-  never-sends : NeverSends (b .trs) (b .trr) (b .ta) (b .aa) (b .cdr) (b .mbtif)
-  never-sends =
-      let f = all (lastNeverSends b) (flags .1 .0) in
+  last-receives : ecan b ≡ false → All (lastReceives b)
+  last-receives p = all (lastReceives b) (or-right (ecan b) (every (lastReceives b)) (flags .0) p)
+    where
+      or-right : (t u : Bool) → (t || u) ≡ true → t ≡ false → u ≡ true
+      or-right true u e q = absurd (false≢true (sym q))
+      or-right false u e q = e
+
+  is-can-b : ecan b ≡ false → b .profile ≡ canB
+  is-can-b p = eqb-true _ _ (last-receives p .0)
+
+  kind : b .profile ≤ eCan
+  kind = at (ecan b) refl
+    where
+      at : (t : Bool) → ecan b ≡ t → b .profile ≤ eCan
+      at true p = let e = eqb-true (b .profile) eCan p in omega arith
+      at false p = let e = is-can-b p in omega arith
+
+  below : (w : ℕ) → w < 2 ^ 32 → (ecan b ≡ false → w < 2 ^ 31) → w < 2 ^ senders b
+  below w l f = at (ecan b) refl
+    where
+      at : (t : Bool) → ecan b ≡ t → w < 2 ^ senders b
+      at true p = rw (eqb-true (b .profile) eCan p) l
+      at false p = rw (is-can-b p) (f p)
+
+  can-send : Senders (senders b) (b .trs) (b .trr) (b .ta) (b .aa) (b .cdr) (b .mbtif)
+  can-send =
       record {
-        trs = ltb-true _ _ (f .0);
-        trr = ltb-true _ _ (f .1 .0);
-        ta = ltb-true _ _ (f .1 .1 .0);
-        aa = ltb-true _ _ (f .1 .1 .1 .0);
-        cdr = ltb-true _ _ (f .1 .1 .1 .1 .0);
-        mbtif = ltb-true _ _ (f .1 .1 .1 .1 .1 .0);
+        trs = below (b .trs) (fit 2 (lit< tt)) (λ p. ltb-true _ _ (last-receives p .1 .1 .0));
+        trr = below (b .trr) (fit 3 (lit< tt)) (λ p. ltb-true _ _ (last-receives p .1 .1 .1 .0));
+        ta = below (b .ta) (fit 4 (lit< tt)) (λ p. ltb-true _ _ (last-receives p .1 .1 .1 .1 .0));
+        aa = below (b .aa) (fit 5 (lit< tt)) (λ p. ltb-true _ _ (last-receives p .1 .1 .1 .1 .1 .0));
+        cdr = below (b .cdr) (fit 11 (lit< tt)) (λ p. ltb-true _ _ (last-receives p .1 .1 .1 .1 .1 .1 .0));
+        mbtif = below (b .mbtif) (fit 12 (lit< tt)) (λ p. ltb-true _ _ (last-receives p .1 .1 .1 .1 .1 .1 .1 .0));
       }
 
-  in-range : Ranges (b .gif) (b .gim) (b .bcr1) (b .bcr2) (b .tsc) (b .tec) (b .rec) (b .mode) (b .slot) (b .recovery) (b .options) (b .tso)
+  in-range : Ranges (b .gif) (b .gim) (b .bcr1) (b .bcr2) (b .tsc) (b .tec) (b .rec) (b .mode) (b .slot) (b .recovery) (b .options) (b .tso) (b .profile)
   in-range =
       let r = all (ranges b) (numbers .0) in
       let s = all (states b) (numbers .1 .0) in
@@ -169,12 +210,18 @@ module _ (b : Block) (w : WideBlock b) (h : goodBlock b ≡ true) where
         recovery = leb-true _ _ (s .1 .1 .1 .0);
         options = leb-true _ _ (s .1 .1 .1 .1 .0);
         tso = leb-true _ _ (s .1 .1 .1 .1 .1 .0);
+        profile = kind;
       }
 
   sending : b .slot ≢ emptySlot → Sending (b .mode) (b .tec) (b .trs) (b .mc) (b .slot)
   sending n =
       let f = all (slotAsks b) (given (filled b) (every (slotAsks b)) (slots .1 .0) (not-eqb (b .slot) emptySlot n)) in
-      record { mode = eqb-true _ _ (f .0); tec = ltb-true _ _ (f .1 .0); trs = f .1 .1 .0; mc = f .1 .1 .1 .0 }
+      record {
+        mode = eqb-true _ _ (f .0);
+        tec = ltb-true _ _ (f .1 .0);
+        trs = word-within (slotMask b) (b .trs) (eqb-true _ _ (f .1 .1 .0)) .has (b .slot) (slot-up b n);
+        mc = word-within (slotMask b) (b .mc) (eqb-true _ _ (f .1 .1 .1 .0)) .has (b .slot) (slot-up b n);
+      }
 
   sleeping : b .mode ≡ sleep → Sleeping (b .tec) (b .rec) (b .trs) (b .trr)
   sleeping e =
@@ -188,17 +235,26 @@ module _ (b : Block) (w : WideBlock b) (h : goodBlock b ≡ true) where
 
   pub block-facts : GoodBlock b
   block-facts =
-      let lost = all (flagsOfPending b) (flags .1 .1 .1 .1 .0) in
-      let gaps = all (maskGaps b) (flags .1 .1 .1 .1 .1 .0) in
+      let lost = all (flagsOfPending b) (flags .1 .1 .1 .0) in
+      let gaps = all (maskGaps b) (flags .1 .1 .1 .1 .0) in
       let waits = numbers .1 .1 .1 .1 .0 in
       record {
         core = record {
-          wide = w;
-          md31 = leb-true _ _ (flags .0);
-          low = never-sends;
-          apart = word-apart (b .trs) (b .md) (eqb-true _ _ (flags .1 .1 .0));
-          atSlot = word-within (b .trr) (mask (b .slot)) (eqb-true _ _ (slots .0));
-          ofRequest = word-within (b .trr) (b .trs) (eqb-true _ _ (flags .1 .1 .1 .0));
+          wide = record {
+            mc = fit 0 (lit< tt);
+            md = fit 1 (lit< tt);
+            rmp = fit 6 (lit< tt);
+            lam = fit 8 (lit< tt);
+            gam = fit 9 (lit< tt);
+            mbrif = fit 13 (lit< tt);
+            mbim = fit 14 (lit< tt);
+            protection = fit 28 (lit< tt);
+          };
+          md31 = λ e. leb-true _ _ (last-receives (ne-eqb (b .profile) eCan (λ q. omega arith)) .1 .0);
+          low = can-send;
+          apart = word-apart (b .trs) (b .md) (eqb-true _ _ (flags .1 .0));
+          atSlot = word-within (b .trr) (slotMask b) (eqb-true _ _ (slots .0));
+          ofRequest = word-within (b .trr) (b .trs) (eqb-true _ _ (flags .1 .1 .0));
           rml = word-within (b .rml) (b .rmp) (eqb-true _ _ (lost .0));
           rfp = word-within (b .rfp) (b .rmp) (eqb-true _ _ (lost .1 .0));
           lam = eqb-true _ _ (gaps .0);
@@ -225,23 +281,30 @@ module _ (b : Block) (g : GoodBlock b) where
   core : Core b
   core = g .core
 
+  last-holds : (ecan b || every (lastReceives b)) ≡ true
+  unfolding core
+  last-holds = at (ecan b) refl
+    where
+      at : (t : Bool) → ecan b ≡ t → (t || every (lastReceives b)) ≡ true
+      at true p = refl
+      at false p =
+          let z = can-b b (core .ranges .profile) p in
+          let l : Senders 31 (b .trs) (b .trr) (b .ta) (b .aa) (b .cdr) (b .mbtif) = rw z at (core .low) in
+          holds (lastReceives b)
+          (eq-eqb _ _ z, (le-leb _ _ (core .md31 z), (lt-ltb _ _ (l .trs), (lt-ltb _ _ (l .trr), (lt-ltb _ _ (l .ta), (lt-ltb _ _ (l .aa), (lt-ltb _ _ (l .cdr), (lt-ltb _ _ (l .mbtif), tt))))))))
+
   flags-hold : goodFlags b ≡ true
   unfolding goodFlags core
   flags-hold =
-      let l = core .low in
       holds (flagClauses b) (
-        le-leb _ _ (core .md31),
+        last-holds,
         (
-          holds (lastNeverSends b)
-              (lt-ltb _ _ (l .trs), (lt-ltb _ _ (l .trr), (lt-ltb _ _ (l .ta), (lt-ltb _ _ (l .aa), (lt-ltb _ _ (l .cdr), (lt-ltb _ _ (l .mbtif), tt)))))),
+          eq-eqb _ _ (apart-word (core .apart)),
           (
-            eq-eqb _ _ (apart-word (core .apart)),
+            eq-eqb _ _ (within-word (core .ofRequest)),
             (
-              eq-eqb _ _ (within-word (core .ofRequest)),
-              (
-                holds (flagsOfPending b) (eq-eqb _ _ (within-word (core .rml)), (eq-eqb _ _ (within-word (core .rfp)), tt)),
-                (holds (maskGaps b) (eq-eqb _ _ (core .lam), (eq-eqb _ _ (core .gam), tt)), tt),
-              ),
+              holds (flagsOfPending b) (eq-eqb _ _ (within-word (core .rml)), (eq-eqb _ _ (within-word (core .rfp)), tt)),
+              (holds (maskGaps b) (eq-eqb _ _ (core .lam), (eq-eqb _ _ (core .gam), tt)), tt),
             ),
           ),
         ),
@@ -291,7 +354,7 @@ module _ (b : Block) (g : GoodBlock b) where
           implied (filled b) (every (slotAsks b))
               (λ p.
               let f = core .slotted (eqb-false _ _ (not-true _ p)) in
-              holds (slotAsks b) (eq-eqb _ _ (f .mode), (lt-ltb _ _ (f .tec), (f .trs, (f .mc, tt))))),
+              holds (slotAsks b) (eq-eqb _ _ (f .mode), (lt-ltb _ _ (f .tec), (eq-eqb _ _ (within-word (slot-within b (b .trs) p (f .trs))), (eq-eqb _ _ (within-word (slot-within b (b .mc) p (f .mc))), tt))))),
           tt,
         ),
       )
@@ -299,3 +362,11 @@ module _ (b : Block) (g : GoodBlock b) where
   pub block-good : goodBlock b ≡ true
   unfolding goodBlock
   block-good = holds (goodFlags b ∷ goodNumbers b ∷ goodSlot b ∷ []) (flags-hold, (numbers-hold, (slot-holds, tt)))
+
+-- ---- a CAN-B never has mailbox 31 in its slot: it would need a request there
+
+pub slot-31 : {b : Block} → GoodBlock b → b .profile ≡ canB → b .slot ≢ 31
+slot-31 {b} g p e =
+    let full : b .slot ≢ emptySlot = omega arith in
+    let low : b .trs < 2 ^ 31 = rw p at (g .core .low .trs) in
+    false≢true (sym (bit-high 31 31 (b .trs) low (omega arith)) ∙ ap (bit (b .trs)) (sym e) ∙ g .core .slotted full .trs)

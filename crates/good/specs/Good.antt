@@ -5,34 +5,31 @@ use mathlib.Core.Bool.{Bool, not, _&&_, _||_}
 use mathlib.Core.List.{List, [], _∷_}
 use lib.Dec.{eqb, ltb, leb}
 use lib.ListN.{length}
-use Rattle.bits.specs.Bit.{bit, mask}
 use Rattle.bits.specs.Below.{allBelow}
 use Rattle.bits.specs.Tests.{every, implies, within, apart, topDown, topUp, gapDown}
 use Rattle.words.specs.Word.{wordAt}
 use Rattle.registers.specs.declared.Block.{Block}
-use Rattle.registers.specs.Block.{imageBytes, registersAt, blockOf, normal, noMode}
-use Rattle.registers.specs.Status.{filled, asleep, busOff}
+use Rattle.registers.specs.Block.{imageBytes, registersAt, blockOf, normal, noMode, emptySlot, canB, maskWord}
+use Rattle.registers.specs.Status.{filled, ecan, asleep, busOff}
+use Rattle.registers.specs.Writes.{slotMask}
 use Rattle.mailboxes.specs.Mailbox.{mailboxes, layout}
 
 -- ---- the clauses on the register block
 
--- The image, good image: bit 31 of MD is up, since mailbox 31 only receives.
-abbrev pub lastReceives : Block → Bool
-lastReceives b = topUp (b .md)
-
--- The image, good image: so bit 31 is down in every word that belongs to sending.
-abbrev pub lastNeverSends : Block → List Bool
-lastNeverSends b =
-    topDown (b .trs) ∷ topDown (b .trr) ∷ topDown (b .ta) ∷ topDown (b .aa) ∷ topDown (b .cdr) ∷ topDown (b .mbtif) ∷ []
+-- The image, good image: the profile is eCAN, or it is CAN-B, whose mailbox 31 only receives: bit 31 of MD is up, and down in every
+-- word that belongs to sending.
+abbrev pub lastReceives : Block → List Bool
+lastReceives b =
+    eqb (b .profile) canB ∷ topUp (b .md) ∷ topDown (b .trs) ∷ topDown (b .trr) ∷ topDown (b .ta) ∷ topDown (b .aa) ∷ topDown (b .cdr) ∷ topDown (b .mbtif) ∷ []
 
 -- The image, good image: a mailbox with a request is no receive mailbox.
 abbrev pub requestsTransmit : Block → Bool
 requestsTransmit b = apart (b .trs) (b .md)
 
--- The image, good image: a cancel bit stands only at the slot's mailbox (with slot 31, at none: bit 31 of TRR is down),
--- and only where a request is.
+-- The image, good image: a cancel bit stands only at the slot's mailbox (with an empty slot, at none), and only where a
+-- request is.
 abbrev pub cancelAtSlot : Block → Bool
-cancelAtSlot b = within (b .trr) (mask (b .slot))
+cancelAtSlot b = within (b .trr) (slotMask b)
 
 abbrev pub cancelOfRequest : Block → Bool
 cancelOfRequest b = within (b .trr) (b .trs)
@@ -62,7 +59,7 @@ abbrev pub states : Block → List Bool
 states b =
     leb (b .mode) 3
     ∷ leb (b .waiting) 4
-    ∷ leb (b .slot) 31
+    ∷ leb (b .slot) emptySlot
     ∷ leb (b .recovery) 127
     ∷ leb (b .options) 3
     ∷ leb (b .tso) 1
@@ -71,7 +68,7 @@ states b =
 -- The image, good image: what is in the slot is being sent, so the mode is normal, the unit is not bus off, and the
 -- mailbox is enabled and has its request.
 abbrev pub slotAsks : Block → List Bool
-slotAsks b = eqb (b .mode) normal ∷ ltb (b .tec) 256 ∷ bit (b .trs) (b .slot) ∷ bit (b .mc) (b .slot) ∷ []
+slotAsks b = eqb (b .mode) normal ∷ ltb (b .tec) 256 ∷ within (slotMask b) (b .trs) ∷ within (slotMask b) (b .mc) ∷ []
 
 abbrev pub slotNeeds : Block → Bool
 slotNeeds b = implies (filled b) (every (slotAsks b))
@@ -102,8 +99,7 @@ sleepNeeds b = implies (asleep b) (every (sleepAsks b))
 
 abbrev pub flagClauses : Block → List Bool
 flagClauses b =
-    lastReceives b
-    ∷ every (lastNeverSends b)
+    (ecan b || every (lastReceives b))
     ∷ requestsTransmit b
     ∷ cancelOfRequest b
     ∷ every (flagsOfPending b)
@@ -153,9 +149,16 @@ spareWords s =
 unfoldable pub goodSpare : List ℕ → Bool
 goodSpare s = every (spareWords s)
 
--- The image, good image: 640 bytes, and every clause above.
+-- The image, good image: no mask of a mailbox has bits 30 and 29, in either profile.
+abbrev pub goodMask : List ℕ → ℕ → Bool
+goodMask s n = gapDown (maskWord s n)
+
+unfoldable pub goodMasks : List ℕ → Bool
+goodMasks s = allBelow (goodMask s) mailboxes
+
+-- The image, good image: 776 bytes, and every clause above.
 abbrev pub contents : List ℕ → List Bool
-contents s = goodLayouts s ∷ goodSpare s ∷ goodBlock (blockOf s) ∷ []
+contents s = goodLayouts s ∷ goodSpare s ∷ goodMasks s ∷ goodBlock (blockOf s) ∷ []
 
 unfoldable pub goodImage : List ℕ → Bool
 goodImage s = eqb (length s) imageBytes && every (contents s)

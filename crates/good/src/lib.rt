@@ -5,11 +5,14 @@ ghost use lib.Dec.{eqb, ltb};
 ghost use Prim.Native.Nat.{_+_, _<_, _≤_};
 ghost use lib.ListN.{length};
 ghost use Rattle.words.specs.Word.{wordAt};
-ghost use Rattle.registers.specs.Block.{imageBytes};
+ghost use Rattle.registers.specs.Block.{imageBytes, emptySlot};
 ghost use Rattle.mailboxes.specs.Mailbox.{layout, wordLayout};
-ghost use Rattle.good.specs.Good.{goodFlags, goodNumbers, goodSlot, goodBlock, goodLayouts, goodSpare, goodImage};
-ghost use Rattle.good.specs.Gathered.{clean, Stretch};
+ghost use Rattle.good.specs.Good.{goodFlags, goodNumbers, goodSlot, goodBlock, goodLayouts, goodSpare, goodMask, goodMasks, goodImage};
+ghost use Rattle.good.specs.Gathered.{clean, Stretch, bare};
 use registers::Block;
+use registers::CAN_B;
+use registers::E_CAN;
+use registers::EMPTY_SLOT;
 
 const TOP: u32 = 0x8000_0000;
 
@@ -17,13 +20,15 @@ const TOP: u32 = 0x8000_0000;
 fn good_flags(b: Block) -> bool
     ensures { λ r. ⌜ r ≡ goodFlags b ⌝ }
 {
-    (b.md >= TOP)
-        & ((b.trs < TOP)
+    ((b.profile == E_CAN)
+        | ((b.profile == CAN_B)
+            & (b.md >= TOP)
+            & (b.trs < TOP)
             & (b.trr < TOP)
             & (b.ta < TOP)
             & (b.aa < TOP)
             & (b.cdr < TOP)
-            & (b.mbtif < TOP))
+            & (b.mbtif < TOP)))
         & (b.trs & b.md == 0)
         & (b.trr & b.trs == b.trr)
         & ((b.rml & b.rmp == b.rml) & (b.rfp & b.rmp == b.rfp))
@@ -43,34 +48,32 @@ fn good_numbers(b: Block) -> bool
         & (b.rec <= 255))
         & ((b.mode <= 3)
             & (b.waiting <= 4)
-            & (b.slot <= 31)
+            & (b.slot <= EMPTY_SLOT)
             & (b.recovery <= 127)
             & (b.options <= 3)
             & (b.tso <= 1))
         & (!(b.tec == 256) | (b.mode == 0))
         & (!(0 < b.recovery) | (b.tec == 256))
-        & ((1 <= b.waiting) & (!!(b.waiting == 4) | (!(b.slot == 31) | (b.tec == 256))))
+        & ((1 <= b.waiting) & (!!(b.waiting == 4) | (!(b.slot == EMPTY_SLOT) | (b.tec == 256))))
         & (!(b.mode == 2) | ((b.tec == 0) & (b.rec == 0) & (b.trs == 0) & (b.trr == 0)))
 }
 
 // The clauses that read a bit at the slot's number.
 fn good_slot(b: Block) -> bool
-    requires { ⌜ b .slot < 32 ⌝ }
+    requires { ⌜ b .slot ≤ emptySlot ⌝ }
     ensures { λ r. ⌜ r ≡ goodSlot b ⌝ }
 {
-    (b.trr & bits::mask(b.slot) == b.trr)
-        & (!!(b.slot == 31)
-            | ((b.mode == 0)
-                & (b.tec < 256)
-                & bits::test(b.trs, b.slot)
-                & bits::test(b.mc, b.slot)))
+    let x = b.slot_mask();
+    (b.trr & x == b.trr)
+        & (!!(b.slot == EMPTY_SLOT)
+            | ((b.mode == 0) & (b.tec < 256) & (x & b.trs == x) & (x & b.mc == x)))
 }
 
 // Every clause on the register block.
 fn good_block(b: Block) -> bool
     ensures { λ r. ⌜ r ≡ goodBlock b ⌝ }
 {
-    if b.slot > 31 {
+    if b.slot > EMPTY_SLOT {
         return false;
     }
     good_flags(b) & good_numbers(b) & good_slot(b)
@@ -174,6 +177,45 @@ fn good_spare(s: &[u8]) -> bool
     are_zero(s, 632)
 }
 
+// The masks of mailboxes n and n + 1 as one number; `|` of such numbers has bits 30 and 29 of a mask where one of them has.
+fn mask_two(s: &[u8], n: usize) -> u64
+    requires { ⌜ (length (now s) ≡ imageBytes) × (n + 2 ≤ 32) ⌝ }
+    ensures { λ r. ⌜ Stretch (goodMask (now (s .entry))) n (n + 2) (bare r) ⌝ }
+{
+    words::word_at(s, registers::MASKS_AT + 4 * n) as u64
+        + 4294967296 * (words::word_at(s, registers::MASKS_AT + 4 * n + 4) as u64)
+}
+
+fn mask_four(s: &[u8], n: usize) -> u64
+    requires { ⌜ (length (now s) ≡ imageBytes) × (n + 4 ≤ 32) ⌝ }
+    ensures { λ r. ⌜ Stretch (goodMask (now (s .entry))) n (n + 4) (bare r) ⌝ }
+{
+    mask_two(s, n) | mask_two(s, n + 2)
+}
+
+fn is_bare(x: u64) -> bool
+    ensures { λ r. ⌜ r ≡ bare x ⌝ }
+{
+    (x / 536870912 % 4 == 0) & (x / 2305843009213693952 % 4 == 0)
+}
+
+// The mask of every mailbox, four at a time: with more between two branches the compiler takes vectors, which cost more.
+fn good_masks(s: &[u8]) -> bool
+    requires { ⌜ length (now s) ≡ imageBytes ⌝ }
+    ensures { λ r. ⌜ r ≡ goodMasks (now (s .entry)) ⌝ }
+{
+    let mut n: usize = 0;
+    loop {
+        if n == 32 {
+            break true;
+        }
+        if !is_bare(mask_four(s, n)) {
+            break false;
+        }
+        n += 4;
+    }
+}
+
 // Any bytes of any length: are they a good image?
 pub fn good_image(s: &[u8]) -> bool
     ensures { λ r. ⌜ r ≡ goodImage (now (s .entry)) ⌝ }
@@ -181,5 +223,5 @@ pub fn good_image(s: &[u8]) -> bool
     if s.len() != registers::IMAGE_BYTES {
         return false;
     }
-    good_layouts(s) & good_spare(s) & good_block(Block::load(s))
+    good_layouts(s) & good_spare(s) & good_masks(s) & good_block(Block::load(s))
 }

@@ -8,13 +8,14 @@ use lib.Dec.{ltb, lit<, lit≤}
 use lib.Bits.{bitAnd, bitOr, or-lt}
 use lib.Pow.{pow-lt}
 use Rattle.bits.specs.Bit.{bit, mask}
-use Rattle.bits.proofs.Sets.{Within, within-trans, within-or, and-within-l, or-within-l, or-within-r, without-within, apart-or, apart-mask, apart-top, and-lt-l}
+use Rattle.bits.proofs.Sets.{Within, within-trans, within-or, and-within-l, or-within-l, or-within-r, without-within, apart-or, apart-mask, and-lt-l}
 use Rattle.registers.specs.declared.Block.{Block}
 use Rattle.registers.specs.Block.{withMode, normal, sleep}
 use Rattle.registers.specs.Modes.{onBus}
 use Rattle.registers.specs.Frames.{fallen, wakened, listened, stored, replied}
-use Rattle.good.proofs.Facts.{Core, GoodBlock}
+use Rattle.good.proofs.Facts.{senders, Core, GoodBlock}
 use Rattle.keeps.proofs.Words.{either, gif-lt}
+use Rattle.keeps.proofs.Slot.{sends-low}
 use Rattle.keeps.proofs.Keep.{keep-trs, keep-rmp, keep-rml, keep-rfp, keep-mbrif, keep-gif, keep-mode}
 use Rattle.keeps.proofs.Open.{Open, still-open}
 use Rattle.keeps.proofs.Modes.{bus-mode, rec-core}
@@ -69,16 +70,16 @@ stored-open {b} i n h rtr =
       zero = i .zero;
     }
 
--- mailbox 31 never sends, so that it is not the one that replies
+-- mailbox 31 of a CAN-B never sends, so that it is not the one that replies
 pub replied-open : {b : Block} → Open b → b .mode ≢ sleep → (n : ℕ) → n < 32 → bit (b .md) n ≡ false → Open (replied b n)
 replied-open {b} i awake n h p =
     let k = i .core in
     let f = apart-mask n (b .md) p in
-    let low : mask n < 2 ^ 31 = apart-top f (pow-lt h) (k .wide .md) (k .md31) in
+    let low = sends-low k (mask n) f (pow-lt h) in
     let more = or-within-l (b .trs) (mask n) in
     record {
       core =
-          keep-trs k (bitOr (b .trs) (mask n)) (or-lt 31 _ _ (k .low .trs) low) (apart-or (k .apart) f) (within-trans (k .ofRequest) more)
+          keep-trs k (bitOr (b .trs) (mask n)) (or-lt (senders b) _ _ (k .low .trs) low) (apart-or (k .apart) f) (within-trans (k .ofRequest) more)
           (λ s. more .has (b .slot) (k .slotted s .trs)) (λ e. absurd (awake e));
       most = i .most;
       zero = i .zero;

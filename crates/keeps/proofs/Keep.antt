@@ -1,14 +1,17 @@
 -- One word replaced: what a good block asks of the new word. Every other clause stays as it is.
 use Prim.Native.Nat.{ℕ, _/_, _%_, _^_, _<_, _≤_}
 use mathlib.Core.Path.{_≡_}
-use mathlib.Core.Bool.{true}
+use mathlib.Core.Bool.{true, not}
 use mathlib.Core.Logic.{_≢_}
 use native.Mathlib.Omega.{arith}
-use Rattle.bits.specs.Bit.{bit, mask}
+use native.Mathlib.Nat.{lt-of-le-of-lt}
+use lib.Dec.{eqb}
+use Rattle.bits.specs.Bit.{bit, flag}
 use Rattle.bits.proofs.Sets.{Within, Apart, within-le}
 use Rattle.registers.specs.declared.Block.{Block}
-use Rattle.registers.specs.Block.{withMc, withMd, withTrs, withTrr, withTa, withAa, withRmp, withRml, withLam, withGam, withRfp, withCdr, withMbtif, withMbrif, withMbim, withGif, withGim, withBcr1, withBcr2, withTsc, withTec, withRec, withMode, withWaiting, withSlot, withRecovery, withOptions, withTso, normal, sleep, emptySlot, busOffAt}
-use Rattle.good.proofs.Facts.{Core, Sending, Sleeping}
+use Rattle.registers.specs.Block.{withMc, withMd, withTrs, withTrr, withTa, withAa, withRmp, withRml, withLam, withGam, withRfp, withCdr, withMbtif, withMbrif, withMbim, withGif, withGim, withBcr1, withBcr2, withTsc, withTec, withRec, withMode, withWaiting, withSlot, withRecovery, withOptions, withTso, withProtection, normal, sleep, emptySlot, busOffAt, canB}
+use Rattle.registers.specs.Writes.{slotMask}
+use Rattle.good.proofs.Facts.{senders, Core, Sending, Sleeping}
 
 module _ {b : Block} (g : Core b) (v : ℕ) where
   -- ---- words that one clause bounds and no other names
@@ -19,16 +22,16 @@ module _ {b : Block} (g : Core b) (v : ℕ) where
   pub keep-gam : v < 2 ^ 32 → v / 2 ^ 29 % 4 ≡ 0 → Core (withGam b v)
   keep-gam h gap = search
 
-  pub keep-ta : v < 2 ^ 31 → Core (withTa b v)
+  pub keep-ta : v < 2 ^ senders b → Core (withTa b v)
   keep-ta h = search
 
-  pub keep-aa : v < 2 ^ 31 → Core (withAa b v)
+  pub keep-aa : v < 2 ^ senders b → Core (withAa b v)
   keep-aa h = search
 
-  pub keep-cdr : v < 2 ^ 31 → Core (withCdr b v)
+  pub keep-cdr : v < 2 ^ senders b → Core (withCdr b v)
   keep-cdr h = search
 
-  pub keep-mbtif : v < 2 ^ 31 → Core (withMbtif b v)
+  pub keep-mbtif : v < 2 ^ senders b → Core (withMbtif b v)
   keep-mbtif h = search
 
   pub keep-mbrif : v < 2 ^ 32 → Core (withMbrif b v)
@@ -36,6 +39,9 @@ module _ {b : Block} (g : Core b) (v : ℕ) where
 
   pub keep-mbim : v < 2 ^ 32 → Core (withMbim b v)
   keep-mbim h = search
+
+  pub keep-protection : v < 2 ^ 32 → Core (withProtection b v)
+  keep-protection h = search
 
   pub keep-gif : v < 256 → Core (withGif b v)
   keep-gif h = search
@@ -75,7 +81,7 @@ module _ {b : Block} (g : Core b) (v : ℕ) where
 
   -- ---- words of sending: what the slot and sleep ask of them
 
-  pub keep-md : v < 2 ^ 32 → 2 ^ 31 ≤ v → Apart (b .trs) v → Core (withMd b v)
+  pub keep-md : v < 2 ^ 32 → (b .profile ≡ canB → 2 ^ 31 ≤ v) → Apart (b .trs) v → Core (withMd b v)
   keep-md h top f = search
 
   pub keep-mc : v < 2 ^ 32 → (b .slot ≢ emptySlot → bit v (b .slot) ≡ true) → Core (withMc b v)
@@ -84,7 +90,7 @@ module _ {b : Block} (g : Core b) (v : ℕ) where
       λ n. let o = g .slotted n in record { mode = o .mode; tec = o .tec; trs = o .trs; mc = on n } in
       search
 
-  pub keep-trs : v < 2 ^ 31 → Apart v (b .md) → Within (b .trr) v → (b .slot ≢ emptySlot → bit v (b .slot) ≡ true)
+  pub keep-trs : v < 2 ^ senders b → Apart v (b .md) → Within (b .trr) v → (b .slot ≢ emptySlot → bit v (b .slot) ≡ true)
       → (b .mode ≡ sleep → v ≡ 0) → Core (withTrs b v)
   keep-trs h a w up down =
       let f : b .slot ≢ emptySlot → Sending (b .mode) (b .tec) v (b .mc) (b .slot) =
@@ -93,16 +99,16 @@ module _ {b : Block} (g : Core b) (v : ℕ) where
       λ e. let o = g .sleeps e in record { tec = o .tec; rec = o .rec; trs = down e; trr = o .trr } in
       search
 
-  -- within TRS: so below 2 ^ 31, and zero asleep
-  pub keep-trr : Within v (mask (b .slot)) → Within v (b .trs) → Core (withTrr b v)
+  -- within TRS: so as small, and zero asleep
+  pub keep-trr : Within v (slotMask b) → Within v (b .trs) → Core (withTrr b v)
   keep-trr at w =
       let l = within-le w in
-      let h : v < 2 ^ 31 = omega (arith, g .low .trs) in
+      let h : v < 2 ^ senders b = lt-of-le-of-lt l (g .low .trs) in
       let s : b .mode ≡ sleep → Sleeping (b .tec) (b .rec) (b .trs) v =
       λ e. let o = g .sleeps e in record { tec = o .tec; rec = o .rec; trs = o .trs; trr = omega arith } in
       search
 
-  pub keep-slot : v ≤ 31 → Within (b .trr) (mask v) → (v ≢ emptySlot → Sending (b .mode) (b .tec) (b .trs) (b .mc) v)
+  pub keep-slot : v ≤ emptySlot → Within (b .trr) (flag (not (eqb v emptySlot)) v) → (v ≢ emptySlot → Sending (b .mode) (b .tec) (b .trs) (b .mc) v)
       → Core (withSlot b v)
   keep-slot h w f = search
 

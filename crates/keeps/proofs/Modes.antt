@@ -9,7 +9,7 @@ use lib.Dec.{eqb, ltb, lit<, lit≤}
 use borrow.Author.Tests.{eqb-true, eqb-false, ltb-true, ltb-false}
 use Rattle.bits.proofs.Sets.{and-l, and-r}
 use Rattle.registers.specs.declared.Block.{Block}
-use Rattle.registers.specs.Block.{withRec, normal, emptySlot, busOffAt}
+use Rattle.registers.specs.Block.{withRec, normal, emptySlot, busOffAt, eCan}
 use Rattle.fresh.specs.Fresh.{freshBlock}
 use Rattle.fresh.proofs.Good.{fresh-block}
 use Rattle.registers.specs.Status.{asleep, busOff}
@@ -99,5 +99,5 @@ asked-open {b} g m h =
 
 -- ---- reset
 
-pub fresh-open : Open freshBlock
-fresh-open = good-open fresh-block
+pub fresh-open : (p : ℕ) → p ≤ eCan → Open (freshBlock p)
+fresh-open p h = good-open (fresh-block p h)

@@ -5,6 +5,7 @@ use mathlib.Core.Bool.{Bool, true, false, not, _&&_}
 use mathlib.Core.Logic.{_≢_}
 use native.Mathlib.Omega.{arith}
 use lib.Dec.{eqb, ltb, lit<, lit≤}
+use lib.Pow.{pow-pos}
 use borrow.Author.Tests.{eqb-true, eqb-false, ltb-true, ltb-false, eq-eqb, ne-eqb, not-true}
 use Rattle.bits.proofs.Sets.{and-l, and-r, within-zero, apart-zero}
 use Rattle.registers.specs.declared.Block.{Block}
@@ -12,7 +13,7 @@ use Rattle.registers.specs.Block.{withTrs, withTrr, withGif, withTec, withRec, 
 use Rattle.registers.specs.Status.{vacant, busOff, passive, warning}
 use Rattle.registers.specs.Writes.{gifWith}
 use Rattle.registers.specs.Modes.{rises, risen, ready, wakes, entered, settled, fallsAsleep}
-use Rattle.good.proofs.Facts.{Core, GoodBlock, Sleeping}
+use Rattle.good.proofs.Facts.{senders, Core, GoodBlock, Sleeping}
 use Rattle.keeps.proofs.Words.{either, gif-lt}
 use Rattle.keeps.proofs.Keep.{keep-trs, keep-trr, keep-gif, keep-tec, keep-rec, keep-mode, keep-waiting}
 
@@ -62,7 +63,7 @@ module _ (b : Block) (k : Core b) (empty : b .slot ≡ emptySlot) (on : b .tec <
       (keep-tec k 0 (lit≤ tt) (λ n. lit< tt) (λ e. absurd (omega arith)) (λ l. let off = k .recovering l in absurd (omega arith)) (λ e. refl))
       0 (lit≤ tt) (λ e. refl))
       0 (within-zero _) (within-zero _))
-      0 (lit< tt) (apart-zero _) (within-zero _) (λ n. absurd (n empty)) (λ e. refl)
+      0 (pow-pos (senders b)) (apart-zero _) (within-zero _) (λ n. absurd (n empty)) (λ e. refl)
 
   entered-core : b .waiting ≤ 3 → (t : Bool) → fallsAsleep b ≡ t → Core (entered b)
   unfolding entered

@@ -1,20 +1,25 @@
--- Bytes written into a mailbox leave the length of the image and its register block.
-use Prim.Native.Nat.{ℕ, _+_, _*_, _<_, _≤_}
+-- Bytes written into a mailbox, or into the masks, leave the length of the image and its register block.
+use Prim.Native.Nat.{ℕ, _+_, _-_, _*_, _<_, _≤_}
 use mathlib.Core.Path.{_≡_, refl, _∙_}
 use mathlib.Core.Bool.{Bool, true, false, cond}
 use mathlib.Core.List.{List}
 use native.Mathlib.Omega.{arith}
-use lib.Dec.{eqb}
+use lib.Dec.{eqb, leb}
+use borrow.Author.Tests.{leb-true}
+use Rattle.bits.proofs.Sets.{and-r}
+use Rattle.words.specs.Word.{putWord}
+use Rattle.events.specs.Decode.{isMask}
+use Rattle.good.proofs.Masked.{mask-beside, zeros-size, zeros-beside}
 use lib.ListN.{length}
 use Rattle.words.proofs.Laws.{length-put}
-use Rattle.registers.specs.Block.{imageBytes, blockOf}
+use Rattle.registers.specs.Block.{imageBytes, masksAt, blockOf}
 use Rattle.mailboxes.specs.declared.Identifier.{Identifier}
 use Rattle.mailboxes.specs.Mailbox.{mailbox, withMailbox}
 use Rattle.mailboxes.specs.Filing.{filed}
 use Rattle.mailboxes.proofs.Laws.{length-mailbox, length-with}
 use Rattle.mailboxes.proofs.Filed.{length-filed, length-stamped}
 use Rattle.good.proofs.Image.{block-stays}
-use Rattle.model.specs.Step.{rewritten, postmarked}
+use Rattle.model.specs.Step.{masked, unmasked, rewritten, postmarked}
 use Rattle.model.specs.Parts.{Loaded}
 
 pub record Beside (s t : List ℕ) : Type 0 where
@@ -36,13 +41,27 @@ module _ (s : List ℕ) (n : ℕ) (h : length s ≡ imageBytes) (l : n < 32) whe
   filed-beside ide rtr i dlc new tsc =
       beside _ (length-filed (mailbox s n) ide rtr i dlc new tsc ∙ length-mailbox s n room)
 
-pub postmarked-beside : (s : List ℕ) (k : ℕ) → Loaded s → Beside s (cond (eqb k 0) (postmarked s) s)
+pub masked-beside : (s : List ℕ) (t v : ℕ) → Beside s (masked s t v)
+unfolding masked
+masked-beside s t v = at (isMask t) refl
+  where
+    at : (u : Bool) → isMask t ≡ u → Beside s (cond u (putWord s (masksAt + 4 * (t - 64)) v) s)
+    at true e =
+        let l = leb-true t 95 (and-r (leb 64 t) (leb t 95) e) in
+        record { size = length-put s (masksAt + 4 * (t - 64)) v; block = mask-beside s (t - 64) v (omega arith) }
+    at false e = record { size = refl; block = refl }
+
+pub unmasked-beside : (s : List ℕ) → Beside s (unmasked s)
+unfolding unmasked
+unmasked-beside s = record { size = zeros-size 32 0 s; block = zeros-beside 32 0 s (omega arith) }
+
+pub postmarked-beside : (s : List ℕ) (k : ℕ) → Loaded s → blockOf s .slot < 32 → Beside s (cond (eqb k 0) (postmarked s) s)
 unfolding postmarked
-postmarked-beside s k l = at (eqb k 0)
+postmarked-beside s k l filled = at (eqb k 0)
   where
     at : (t : Bool) → Beside s (cond t (postmarked s) s)
     at true =
-        beside s (blockOf s .slot) (l .size) (l .slot) _
+        beside s (blockOf s .slot) (l .size) filled _
         (length-stamped (mailbox s (blockOf s .slot)) (blockOf s .tsc)
-        ∙ length-mailbox s (blockOf s .slot) (room s (blockOf s .slot) (l .size) (l .slot)))
+        ∙ length-mailbox s (blockOf s .slot) (room s (blockOf s .slot) (l .size) filled))
     at false = record { size = refl; block = refl }

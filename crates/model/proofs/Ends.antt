@@ -16,7 +16,7 @@ use Rattle.good.proofs.Image.{small}
 use Rattle.refusals.specs.Refusal.{refusal}
 use Rattle.keeps.proofs.Open.{risen-open}
 use Rattle.answers.specs.Answer.{Promise}
-use Rattle.model.specs.Step.{acted, blockAfter, mailboxesAfter, accepted}
+use Rattle.model.specs.Step.{acted, blockAfter, besideAfter, accepted}
 use Rattle.model.specs.Parts.{Acted}
 use Rattle.model.proofs.Meets.{unsettled}
 use Rattle.model.proofs.Kept.{taken, acted-open, boxes-after}
@@ -38,7 +38,7 @@ unfolding accepted blockAfter
 ends s e bytes small-bytes g z {x} {y} {r} p q =
     let v = event e in
     let t = taken s e bytes small-bytes g z in
-    let m = mailboxesAfter s v in
+    let m = besideAfter s v in
     let b = risen (blockOf s) (acted s v) in
     let o = risen-open (blockOf s) (acted-open s v t) in
     let back = ap blockOf (p .image) ∙ block-back m b (boxes-after s v t .size) (small b (o .core) (o .most)) in

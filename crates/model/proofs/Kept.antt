@@ -1,18 +1,19 @@
 -- Demand 2: an accepted step leaves a good image.
-use Prim.Native.Nat.{ℕ, _*_, _<_}
+use Prim.Native.Nat.{ℕ, zero, suc, _+_, _-_, _*_, _^_, _<_, _≤_}
 use mathlib.Core.Path.{_≡_, refl, sym, _∙_, ap}
-use mathlib.Core.Bool.{Bool, true, false, cond, not, false≢true}
+use mathlib.Core.Bool.{Bool, true, false, cond, not, _||_, or-true, false≢true}
 use mathlib.Core.List.{List}
 use mathlib.Core.Logic.{_≢_}
 use native.Mathlib.Omega.{arith}
-use lib.Dec.{eqb, ltb}
+use lib.Dec.{eqb, ltb, leb}
 use lib.ListN.{length}
-use borrow.Author.Tests.{eqb-true, eqb-false, eq-eqb, ltb-true, not-false}
+use borrow.Author.Tests.{eqb-true, eqb-false, eq-eqb, ltb-true, leb-true, not-false}
+use Rattle.bits.proofs.Sets.{and-r}
 use Rattle.words.specs.Word.{putWord}
 use Rattle.words.proofs.Laws.{length-put}
 use Rattle.words.proofs.Bytes.{Bytes, bytes-put}
-use Rattle.registers.specs.Block.{blockOf, sleep, emptySlot}
-use Rattle.registers.specs.Status.{vacant, asleep}
+use Rattle.registers.specs.Block.{masksAt, blockOf, sleep, emptySlot}
+use Rattle.registers.specs.Status.{vacant, ecan, asleep}
 use Rattle.registers.specs.Modes.{onBus}
 use Rattle.registers.specs.Frames.{listened}
 use Rattle.registers.specs.Sending.{started, added, concluded}
@@ -23,7 +24,7 @@ use Rattle.mailboxes.proofs.Filed.{length-filed, bytes-filed, filed-layout, lay
 use Rattle.events.specs.declared.Event.{Event}
 use Rattle.events.specs.declared.Event.the-variants.{Refused, Register, Mailbox, Heard, Start, Outcome, ReceiveError, Recessive, Tick, Mode, Options, Reset}
 use Rattle.events.specs.declared.Frame.{Frame}
-use Rattle.events.specs.Decode.{event, decoded, wakefulAs}
+use Rattle.events.specs.Decode.{isMask, registerAllowed, event, decoded, wakefulAs}
 use Rattle.events.proofs.Refusals.{operationOf, isRefused, write-awake}
 use Rattle.events.proofs.Allowed.{Allowed, FrameAllowed, decoded-allowed}
 use Rattle.filter.specs.declared.Delivery.{Delivery}
@@ -35,6 +36,7 @@ use Rattle.sending.proofs.Choice.{next-is, next-off}
 use Rattle.good.specs.Good.{goodImage}
 use Rattle.good.proofs.Facts.{GoodBlock}
 use Rattle.good.proofs.Image.{GoodImage, image-facts, mailbox-kept, block-kept}
+use Rattle.good.proofs.Masked.{mask-kept, zeros-kept}
 use Rattle.keeps.proofs.Open.{Open, good-open, risen-open, settled-good}
 use Rattle.keeps.proofs.Writes.{written-open}
 use Rattle.keeps.proofs.Modes.{ticked-open, recessive-open, optioned-open, worsened-open, asked-open, fresh-open}
@@ -44,7 +46,7 @@ use Rattle.keeps.proofs.Sending.{started-open, sent-open, failed-open}
 use Rattle.refusals.specs.Refusal.{refusal, remaining}
 use Rattle.refusals.proofs.Order.{refusal-good}
 use Rattle.answers.specs.Answer.{noMailbox, refused}
-use Rattle.model.specs.Step.{own, goes, delivered, acted, blockAfter, startedWith, stowed, postmarked, rewritten, mailboxesAfter, accepted, step}
+use Rattle.model.specs.Step.{own, goes, delivered, acted, blockAfter, startedWith, stowed, masked, unmasked, postmarked, rewritten, besideAfter, accepted, step}
 use Rattle.model.proofs.Whole.{unrefused, real}
 
 -- ---- what an event that is not refused tells
@@ -57,7 +59,7 @@ clear false k x h e = refl
 -- an event of a good image, decoded and not refused
 pub record Taken (s : List ℕ) (v : Event) : Type 0 where
   pub good : GoodImage s
-  pub fair : Allowed v
+  pub fair : Allowed (ecan (blockOf s)) v
   pub awake : wakefulAs (operationOf v) ≡ true → blockOf s .mode ≢ sleep
   pub free : remaining s v ≡ 0
 
@@ -90,6 +92,11 @@ module _ (s : List ℕ) where
   concludes : (k : ℕ) → GoodBlock (blockOf s) → blockOf s .slot ≢ emptySlot → Open (concluded (blockOf s) k)
   concludes k g f = either Open (eqb k 0) (λ e. sent-open g f) (λ e. failed-open g f (added (blockOf s) k))
 
+  -- an outcome that is not refused finds a mailbox in the slot
+  pub outcome-slot : (k : ℕ) → Taken s (Outcome k) → blockOf s .slot ≢ emptySlot
+  unfolding remaining
+  outcome-slot k t = eqb-false _ _ (clear (vacant (blockOf s)) 7 0 (omega arith) (t .free))
+
   pub acted-open : (v : Event) → Taken s v → Open (acted s v)
   unfolding own goes delivered remaining
   acted-open (Refused r) t = absurd (t .fair)
@@ -99,13 +106,13 @@ module _ (s : List ℕ) where
   acted-open (Heard f) t = held f (delivery s f) (t .good .block) refl
   acted-open Start t = taken-up (t .good .block) (empty (t .free))
   acted-open (Outcome k) t =
-      concludes k (t .good .block) (eqb-false _ _ (clear (vacant (blockOf s)) 7 0 (omega arith) (t .free)))
+      concludes k (t .good .block) (outcome-slot k t)
   acted-open (ReceiveError v) t = worsened-open (t .good .block) v
   acted-open Recessive t = recessive-open (t .good .block)
   acted-open Tick t = ticked-open (t .good .block)
   acted-open (Mode m) t = asked-open (t .good .block) m (t .fair)
   acted-open (Options v) t = optioned-open (t .good .block) v (t .fair)
-  acted-open Reset t = fresh-open
+  acted-open Reset t = fresh-open (blockOf s .profile) (t .good .block .core .ranges .profile)
 
   pub block-after : (v : Event) → Taken s v → GoodBlock (blockAfter s v)
   unfolding blockAfter
@@ -138,9 +145,9 @@ module _ (s : List ℕ) where
   stowed-good f (Reply n c) g a e = g
   stowed-good f (Nowhere c) g a e = g
 
-  postmarked-good : GoodImage s → GoodImage (postmarked s)
+  postmarked-good : GoodImage s → blockOf s .slot ≢ emptySlot → GoodImage (postmarked s)
   unfolding postmarked
-  postmarked-good g =
+  postmarked-good g full =
       let n = blockOf s .slot in
       let r = g .block .core .ranges in
       let h : n < mailboxes = omega (arith, r .slot) in
@@ -148,10 +155,24 @@ module _ (s : List ℕ) where
       replaced n (stamped m (blockOf s .tsc)) h g (length-stamped m (blockOf s .tsc)) (bytes-stamped m (blockOf s .tsc) (bytes-mailbox s n (g .bytes)))
       (stamped-layout m (blockOf s .tsc) (own-length n h g) (r .tsc) (own-layout n h g))
 
-  pub boxes-after : (v : Event) → Taken s v → GoodImage (mailboxesAfter s v)
-  unfolding mailboxesAfter rewritten
+  masked-good : (r v : ℕ) → GoodImage s → v < 2 ^ 32 → registerAllowed (ecan (blockOf s)) r v ≡ true → GoodImage (masked s r v)
+  unfolding masked registerAllowed
+  masked-good r v g small a = at (isMask r) refl
+    where
+      at : (u : Bool) → isMask r ≡ u → GoodImage (cond u (putWord s (masksAt + 4 * (r - 64)) v) s)
+      at true e =
+          let l = leb-true r 95 (and-r (leb 64 r) (leb r 95) e) in
+          mask-kept s (r - 64) v (omega arith) g small (rw (e, or-true (eqb r 8 || eqb r 9)) at a)
+      at false e = g
+
+  unmasked-good : GoodImage s → GoodImage (unmasked s)
+  unfolding unmasked
+  unmasked-good g = zeros-kept 32 0 s (omega arith) g
+
+  pub boxes-after : (v : Event) → Taken s v → GoodImage (besideAfter s v)
+  unfolding besideAfter rewritten
   boxes-after (Refused r) t = t .good
-  boxes-after (Register r v) t = t .good
+  boxes-after (Register r v) t = masked-good r v (t .good) (t .fair .small) (t .fair .valued)
   boxes-after (Mailbox n k v) t =
       let g = t .good in
       let a = t .fair in
@@ -163,14 +184,14 @@ module _ (s : List ℕ) where
   boxes-after (Outcome k) t = at (eqb k 0)
     where
       at : (u : Bool) → GoodImage (cond u (postmarked s) s)
-      at true = postmarked-good (t .good)
+      at true = postmarked-good (t .good) (outcome-slot k t)
       at false = t .good
   boxes-after (ReceiveError v) t = t .good
   boxes-after Recessive t = t .good
   boxes-after Tick t = t .good
   boxes-after (Mode m) t = t .good
   boxes-after (Options v) t = t .good
-  boxes-after Reset t = t .good
+  boxes-after Reset t = unmasked-good (t .good)
 
   -- ---- the image
 
@@ -178,7 +199,7 @@ module _ (s : List ℕ) where
   unfolding accepted
   accepted-good v t =
       let m = boxes-after v t in
-      block-kept (mailboxesAfter s v) (blockAfter s v) (m .bytes) (m .size) (m .layouts) (m .spare) (block-after v t)
+      block-kept (besideAfter s v) (blockAfter s v) (m .bytes) (m .size) (m .layouts) (m .spare) (m .masks) (block-after v t)
 
 -- ---- the step, of any bytes: a good image stays good
 
@@ -186,15 +207,18 @@ module _ (s e : List ℕ) (bytes : Bytes s) (small : Bytes e) (g : goodImage s �
   a : Bool
   a = asleep (blockOf s)
 
+  p : Bool
+  p = ecan (blockOf s)
+
   pub taken : refusal s e ≡ 0 → Taken s (event e)
-  unfolding a
+  unfolding a p
   taken z =
-      let left : remaining s (decoded a e) ≡ 0 = sym (refusal-good s e g) ∙ z in
-      let same = real s a e left in
+      let left : remaining s (decoded a p e) ≡ 0 = sym (refusal-good s e g) ∙ z in
+      let same = real s a p e left in
       record {
         good = image-facts s bytes g;
-        fair = decoded-allowed a e (event e) small same (ap isRefused (sym same) ∙ unrefused s a e left);
-        awake = λ w h. absurd (false≢true (sym (write-awake a e (event e) same w) ∙ eq-eqb _ _ h));
+        fair = decoded-allowed a p e (event e) small same (ap isRefused (sym same) ∙ unrefused s a p e left);
+        awake = λ w h. absurd (false≢true (sym (write-awake a p e (event e) same w) ∙ eq-eqb _ _ h));
         free = ap (remaining s) (sym same) ∙ left;
       }
 

@@ -23,7 +23,8 @@ use Rattle.filter.specs.declared.Delivery.the-variants.{Into, Reply, Nowhere}
 use Rattle.filter.specs.Filter.{delivery}
 use Rattle.refusals.specs.Refusal.{refusal}
 use Rattle.answers.specs.Answer.{refused}
-use Rattle.model.specs.Step.{stowed, postmarked, rewritten, mailboxesAfter, blockAfter, accepted, step}
+use Rattle.model.specs.Step.{stowed, postmarked, rewritten, besideAfter, blockAfter, accepted, step}
+use Rattle.model.proofs.Beside.{masked-beside, unmasked-beside}
 
 -- what stands in the place of a mailbox is as long as it was, wherever that is
 length-replaced : (s : List ℕ) (n : ℕ) (m : List ℕ) → length m ≡ length (mailbox s n) → length (withMailbox s n m) ≡ length s
@@ -45,10 +46,10 @@ length-stowed s f (Into n c) =
 length-stowed s f (Reply n c) = refl
 length-stowed s f (Nowhere c) = refl
 
-pub length-after : (s : List ℕ) (e : Event) → length (mailboxesAfter s e) ≡ length s
-unfolding mailboxesAfter postmarked rewritten
+pub length-after : (s : List ℕ) (e : Event) → length (besideAfter s e) ≡ length s
+unfolding besideAfter postmarked rewritten
 length-after s (Refused r) = refl
-length-after s (Register t v) = refl
+length-after s (Register t v) = masked-beside s t v .size
 length-after s (Mailbox n k v) = length-replaced s n (putWord (mailbox s n) (4 * k) v) (length-put (mailbox s n) (4 * k) v)
 length-after s (Heard f) = length-stowed s f (delivery s f)
 length-after s Start = refl
@@ -62,12 +63,12 @@ length-after s Recessive = refl
 length-after s Tick = refl
 length-after s (Mode v) = refl
 length-after s (Options v) = refl
-length-after s Reset = refl
+length-after s Reset = unmasked-beside s .size
 
 pub step-length : (s e : List ℕ) → length (step s e .image) ≡ length s
 unfolding step accepted
 step-length s e = to (eqb (refusal s e) 0)
   where
     to : (t : Bool) → length (cond t (accepted s (event e)) (refused s (refusal s e)) .image) ≡ length s
-    to true = length-block (mailboxesAfter s (event e)) (blockAfter s (event e)) ∙ length-after s (event e)
+    to true = length-block (besideAfter s (event e)) (blockAfter s (event e)) ∙ length-after s (event e)
     to false = refl

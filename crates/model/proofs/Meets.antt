@@ -20,7 +20,7 @@ use Rattle.filter.specs.declared.Delivery.{Delivery}
 use Rattle.filter.specs.declared.Delivery.the-variants.{Into, Reply, Nowhere}
 use Rattle.filter.specs.Filter.{delivery}
 use Rattle.answers.specs.Answer.{packed}
-use Rattle.model.specs.Step.{own, goes, remote, delivered, stowed, mailboxesAfter, named, namedBy, countOf}
+use Rattle.model.specs.Step.{own, goes, remote, delivered, stowed, besideAfter, named, namedBy, countOf}
 use Rattle.model.specs.Parts.{Acted, Delivered}
 
 -- ---- where no counter rises, no flag does
@@ -80,7 +80,7 @@ unsettled x h = rw (eq-eqb (x .waiting) noMode h)
 module _ (s : List ℕ) (b : Block) (l : b ≡ blockOf s) where
   -- an event that carries no frame: its own block, the bytes of the mailboxes, the mailbox that it names
   pub acts : (e : Event) (next : Block) (boxes : List ℕ) (n : ℕ) {x : List ℕ} {r : ℕ}
-      → own s e ≡ next → goes s e ≡ Nowhere 0 → mailboxesAfter s e ≡ boxes → named s e ≡ n
+      → own s e ≡ next → goes s e ≡ Nowhere 0 → besideAfter s e ≡ boxes → named s e ≡ n
       → x ≡ putBlock boxes (risen b next) → r ≡ packed 0 n 0 → Acted s e x r
   unfolding delivered
   acts e next boxes n o g m a p q =
@@ -106,7 +106,7 @@ module _ (s : List ℕ) (b : Block) (l : b ≡ blockOf s) where
       }
 
 pub heard-as : (s : List ℕ) (f : Frame) (d : Delivery) {x : List ℕ} {r : ℕ} → delivery s f ≡ d → Delivered s f d x r → Acted s (Heard f) x r
-unfolding own goes mailboxesAfter named
+unfolding own goes besideAfter named
 heard-as s f d {x} {r} e p =
     let q : Delivered s f (delivery s f) x r = subst (λ (y : Delivery). Delivered s f y x r) (sym e) p in
     record { image = q .image; answered = q .answered }

@@ -1,22 +1,23 @@
 -- One step: what an accepted event does to the registers, to the bytes of a mailbox, and what it answers.
-use Prim.Native.Nat.{ℕ, _*_}
+use Prim.Native.Nat.{ℕ, _+_, _-_, _*_}
 use mathlib.Core.Bool.{Bool, false, cond}
 use mathlib.Core.List.{List}
 use lib.Dec.{eqb, ltb}
-use Rattle.words.specs.Word.{putWord}
+use lib.ListN.{replicate}
+use Rattle.words.specs.Word.{putWord, putWords}
 use Rattle.registers.specs.declared.Block.{Block}
-use Rattle.registers.specs.Block.{blockOf, putBlock}
+use Rattle.registers.specs.Block.{masksAt, blockOf, putBlock}
 use Rattle.fresh.specs.Fresh.{freshBlock}
 use Rattle.registers.specs.Writes.{written}
 use Rattle.registers.specs.Modes.{ticked, worsened, recessive, optioned, asked, risen, settled}
 use Rattle.registers.specs.Frames.{listened, stored, replied}
 use Rattle.registers.specs.Sending.{started, concluded}
-use Rattle.mailboxes.specs.Mailbox.{mailbox, withMailbox}
+use Rattle.mailboxes.specs.Mailbox.{mailboxes, mailbox, withMailbox}
 use Rattle.mailboxes.specs.Filing.{filed, stamped}
 use Rattle.events.specs.declared.Event.{Event}
 use Rattle.events.specs.declared.Event.the-variants.{Refused, Register, Mailbox, Heard, Start, Outcome, ReceiveError, Recessive, Tick, Mode, Options, Reset}
 use Rattle.events.specs.declared.Frame.{Frame}
-use Rattle.events.specs.Decode.{event}
+use Rattle.events.specs.Decode.{isMask, event}
 use Rattle.filter.specs.declared.Delivery.{Delivery}
 use Rattle.filter.specs.declared.Delivery.the-variants.{Into, Reply, Nowhere}
 use Rattle.filter.specs.Filter.{delivery}
@@ -43,7 +44,7 @@ own s Recessive = recessive (blockOf s)
 own s Tick = ticked (blockOf s)
 own s (Mode m) = asked (blockOf s) m
 own s (Options v) = optioned (blockOf s) v
-own s Reset = freshBlock
+own s Reset = freshBlock (blockOf s .profile)
 
 -- Receiving: where an event carries a frame, where it goes, and whether it is a remote one.
 unfoldable pub goes : List ℕ → Event → Delivery
@@ -88,7 +89,7 @@ acted s e = delivered (own s e) (remote e) (goes s e)
 unfoldable pub blockAfter : List ℕ → Event → Block
 blockAfter s e = settled (risen (blockOf s) (acted s e))
 
--- ---- the bytes of the mailboxes: at most one mailbox changes
+-- ---- the bytes beside the block: at most one mailbox changes, or the masks
 
 -- Receiving: a frame that is stored is filed in its mailbox, with the time stamp of the moment.
 unfoldable pub stowed : List ℕ → Frame → Delivery → List ℕ
@@ -105,19 +106,27 @@ postmarked s = withMailbox s (blockOf s .slot) (stamped (mailbox s (blockOf s .s
 unfoldable pub rewritten : List ℕ → ℕ → ℕ → ℕ → List ℕ
 rewritten s n k v = withMailbox s n (putWord (mailbox s n) (4 * k) v)
 
-unfoldable pub mailboxesAfter : List ℕ → Event → List ℕ
-mailboxesAfter s (Refused r) = s
-mailboxesAfter s (Register t v) = s
-mailboxesAfter s (Mailbox n k v) = rewritten s n k v
-mailboxesAfter s (Heard f) = stowed s f (delivery s f)
-mailboxesAfter s Start = s
-mailboxesAfter s (Outcome k) = cond (eqb k 0) (postmarked s) s
-mailboxesAfter s (ReceiveError v) = s
-mailboxesAfter s Recessive = s
-mailboxesAfter s Tick = s
-mailboxesAfter s (Mode m) = s
-mailboxesAfter s (Options v) = s
-mailboxesAfter s Reset = s
+-- Writing, registers 64 to 95 of an eCAN: the mask of a mailbox takes the value.
+unfoldable pub masked : List ℕ → ℕ → ℕ → List ℕ
+masked s t v = cond (isMask t) (putWord s (masksAt + 4 * (t - 64)) v) s
+
+-- The events, reset: every mask is zero again.
+unfoldable pub unmasked : List ℕ → List ℕ
+unmasked s = putWords s masksAt (replicate mailboxes 0)
+
+unfoldable pub besideAfter : List ℕ → Event → List ℕ
+besideAfter s (Refused r) = s
+besideAfter s (Register t v) = masked s t v
+besideAfter s (Mailbox n k v) = rewritten s n k v
+besideAfter s (Heard f) = stowed s f (delivery s f)
+besideAfter s Start = s
+besideAfter s (Outcome k) = cond (eqb k 0) (postmarked s) s
+besideAfter s (ReceiveError v) = s
+besideAfter s Recessive = s
+besideAfter s Tick = s
+besideAfter s (Mode m) = s
+besideAfter s (Options v) = s
+besideAfter s Reset = unmasked s
 
 -- ---- the answer
 
@@ -152,7 +161,7 @@ named s Reset = noMailbox
 -- An accepted event.
 unfoldable pub accepted : List ℕ → Event → Result
 accepted s e =
-    record { image = putBlock (mailboxesAfter s e) (blockAfter s e); refusal = 0; mailbox = named s e; count = countOf (goes s e) }
+    record { image = putBlock (besideAfter s e) (blockAfter s e); refusal = 0; mailbox = named s e; count = countOf (goes s e) }
 
 -- The step of any image and any event bytes: refused, with every byte as it came, or accepted.
 unfoldable pub step : List ℕ → List ℕ → Result

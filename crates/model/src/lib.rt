@@ -7,12 +7,12 @@ ghost use mathlib.Core.Bool.{cond};
 ghost use lib.Dec.{eqb};
 ghost use lib.ListN.{length};
 ghost use Prim.Native.Nat.{_<_, _≤_};
-ghost use Rattle.registers.specs.Block.{imageBytes, blockOf, putBlock, noMode};
+ghost use Rattle.registers.specs.Block.{imageBytes, blockOf, putBlock, noMode, emptySlot};
 ghost use Rattle.registers.specs.Modes.{settled};
 ghost use Rattle.events.specs.declared.Event.the-variants.{Register, Mailbox, Heard, Start, Outcome, ReceiveError, Recessive, Tick, Mode, Options, Reset};
 ghost use Rattle.filter.specs.declared.Delivery.the-variants.{Into, Reply, Nowhere};
 ghost use Rattle.answers.specs.Answer.{Promise};
-ghost use Rattle.model.specs.Step.{startedWith, postmarked, step as stepOf};
+ghost use Rattle.model.specs.Step.{startedWith, masked, unmasked, postmarked, step as stepOf};
 ghost use Rattle.model.specs.Parts.{Loaded, Sized, Fit, Acted, Delivered};
 use events::Event;
 use events::Frame;
@@ -21,10 +21,21 @@ use registers::Block;
 
 // ---- writes
 
+// A mask of an eCAN; no other register stands there.
+fn put_mask(image: &mut [u8], t: u32, v: u32)
+    requires { ⌜ length (now image) ≡ imageBytes ⌝ }
+    ensures { λ r. ⌜ now (image .exit) ≡ masked (now (image .entry)) t v ⌝ }
+{
+    if (64 <= t) & (t <= 95) {
+        words::put_word(image, registers::MASKS_AT + 4 * (t as usize - 64), v);
+    }
+}
+
 fn write_register(image: &mut [u8], t: u32, v: u32) -> u64
     requires { ⌜ Loaded (now image) ⌝ }
     ensures { λ r. ⌜ Acted (now (image .entry)) (Register t v) (now (image .exit)) r ⌝ }
 {
+    put_mask(image, t, v);
     let b = Block::load(image);
     b.write(t, v).rise(b).store(image);
     answers::pack(0, 32, 0)
@@ -105,7 +116,7 @@ fn start(image: &mut [u8]) -> u64
 
 // The time stamp of a frame that was sent.
 fn postmark(image: &mut [u8], kind: u32)
-    requires { ⌜ Loaded (now image) ⌝ }
+    requires { ⌜ (Loaded (now image)) × (blockOf (now image) .slot < 32) ⌝ }
     ensures { λ r. ⌜ now (image .exit) ≡ cond (eqb kind 0) (postmarked (now (image .entry))) (now (image .entry)) ⌝ }
 {
     if kind == 0 {
@@ -115,7 +126,7 @@ fn postmark(image: &mut [u8], kind: u32)
 }
 
 fn conclude(image: &mut [u8], kind: u32) -> u64
-    requires { ⌜ Loaded (now image) ⌝ }
+    requires { ⌜ (Loaded (now image)) × (blockOf (now image) .slot < 32) ⌝ }
     ensures { λ r. ⌜ Acted (now (image .entry)) (Outcome kind) (now (image .exit)) r ⌝ }
 {
     postmark(image, kind);
@@ -171,12 +182,24 @@ fn choose_options(image: &mut [u8], v: u32) -> u64
     answers::pack(0, 32, 0)
 }
 
+fn clear_masks(image: &mut [u8])
+    requires { ⌜ length (now image) ≡ imageBytes ⌝ }
+    ensures { λ r. ⌜ now (image .exit) ≡ unmasked (now (image .entry)) ⌝ }
+{
+    let mut n: usize = 0;
+    while n < 32 {
+        words::put_word(image, registers::MASKS_AT + 4 * n, 0);
+        n += 1;
+    }
+}
+
 fn reset(image: &mut [u8]) -> u64
     requires { ⌜ Loaded (now image) ⌝ }
     ensures { λ r. ⌜ Acted (now (image .entry)) Reset (now (image .exit)) r ⌝ }
 {
+    clear_masks(image);
     let b = Block::load(image);
-    fresh::fresh_block().rise(b).store(image);
+    fresh::fresh_block(b.profile).rise(b).store(image);
     answers::pack(0, 32, 0)
 }
 
@@ -184,7 +207,7 @@ fn reset(image: &mut [u8]) -> u64
 
 // What an accepted event does, up to the end of the step. A refusal is none.
 fn act(image: &mut [u8], e: Event) -> u64
-    requires { ⌜ (Loaded (now image)) × (Sized e) ⌝ }
+    requires { ⌜ (Loaded (now image)) × (Sized (now image) e) ⌝ }
     ensures { λ r. ⌜ Acted (now (image .entry)) e (now (image .exit)) r ⌝ }
 {
     match e {
@@ -226,7 +249,7 @@ pub fn step(image: &mut [u8], event: &[u8]) -> u64
         return answers::pack(1, 32, 0);
     }
     let b = Block::load(image);
-    let e = events::decode(b.is_asleep(), event);
+    let e = events::decode(b.is_asleep(), b.is_ecan(), event);
     let refusal = refusals::remaining_refusal(image, b, e);
     if refusal != 0 {
         return answers::pack(refusal, 32, 0);

@@ -1,15 +1,20 @@
 -- The status word GSR.
 use Prim.Native.Nat.{ℕ, _+_, _*_, _^_}
+use mathlib.Core.Bool.{cond}
 use lib.Dec.{eqb}
 use Rattle.bits.specs.Bit.{flag}
 use Rattle.registers.specs.declared.Block.{Block}
 use Rattle.registers.specs.Block.{suspend, configuration}
-use Rattle.registers.specs.Status.{filled, asleep, busOff, passive, warning}
+use Rattle.registers.specs.Status.{vacant, filled, asleep, busOff, passive, warning}
+
+-- Writing, register 32: the slot's number, 31 where it is empty.
+abbrev pub shownSlot : Block → ℕ
+shownSlot b = cond (vacant b) 31 (b .slot)
 
 -- Writing, register 32: the slot's number in bits 16 to 12, a flag for each state below, nothing else.
 unfoldable pub gsr : Block → ℕ
 gsr b =
-    b .slot * 2 ^ 12
+    shownSlot b * 2 ^ 12
     + flag (filled b) 10
     + flag (eqb (b .mode) suspend) 8
     + flag (eqb (b .mode) configuration) 7

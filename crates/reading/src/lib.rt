@@ -3,19 +3,33 @@ mod gsr;
 
 ghost use mathlib.Core.Path.{_≡_};
 ghost use mathlib.Core.Bool.{true};
-ghost use Prim.Native.Nat.{_<_};
+ghost use Prim.Native.Nat.{_≤_};
+ghost use Rattle.registers.specs.Block.{blockOf};
+ghost use Rattle.registers.specs.Status.{ecan};
 ghost use Rattle.good.specs.Good.{goodImage};
 ghost use Rattle.answers.specs.Answer.{ReadPromise};
-ghost use Rattle.reading.specs.Read.{readable, sleepingValue, value as valueOf, read as readOf};
+ghost use Rattle.reading.specs.Read.{readable, placeOf, sleepingValue, value as valueOf, read as readOf};
 use registers::Block;
 
 const GSR: u32 = 32;
 
 // May this register be read?
-fn is_readable(number: u32) -> bool
-    ensures { λ r. ⌜ r ≡ readable number ⌝ }
+fn is_readable(ecan: bool, number: u32) -> bool
+    ensures { λ r. ⌜ r ≡ readable ecan number ⌝ }
 {
-    (number <= 21) | (number == GSR)
+    (number <= 21) | (!ecan & (number == GSR)) | ((64 <= number) & (number <= 96))
+}
+
+// Where the word of a register stands in the image.
+fn place(number: u32) -> usize
+    requires { ⌜ number ≤ 96 ⌝ }
+    ensures { λ r. ⌜ r ≡ placeOf number ⌝ }
+{
+    let n = number as usize;
+    if 64 <= n {
+        return registers::REGISTERS_AT + 4 * (n - 32);
+    }
+    registers::REGISTERS_AT + 4 * n
 }
 
 // What a register reads asleep.
@@ -27,7 +41,7 @@ fn sleeping_value(number: u32) -> u32
 
 // What a register reads in a good image.
 fn value(image: &[u8], number: u32) -> u32
-    requires { ⌜ (goodImage (now image) ≡ true) × (readable number ≡ true) ⌝ }
+    requires { ⌜ (goodImage (now image) ≡ true) × (readable (ecan (blockOf (now image))) number ≡ true) ⌝ }
     ensures { λ r. ⌜ r ≡ valueOf (now (image .entry)) number ⌝ }
 {
     let b = Block::load(image);
@@ -37,7 +51,7 @@ fn value(image: &[u8], number: u32) -> u32
     if number == GSR {
         return gsr::gsr(b);
     }
-    words::word_at(image, registers::REGISTERS_AT + 4 * (number as usize))
+    words::word_at(image, place(number))
 }
 
 // Any bytes, any number: value and refusal, packed.
@@ -47,7 +61,7 @@ pub fn read(image: &[u8], number: u32) -> u64
     if !good::good_image(image) {
         return answers::pack_reading(1, 0);
     }
-    if !is_readable(number) {
+    if !is_readable(Block::load(image).is_ecan(), number) {
         return answers::pack_reading(2, 0);
     }
     answers::pack_reading(0, value(image, number))

@@ -6,7 +6,7 @@ use mathlib.Core.List.{List, [], _∷_}
 use lib.Dec.{lit≤}
 use Rattle.bits.specs.Tests.{firstFrom}
 use Rattle.registers.specs.Block.{blockOf}
-use Rattle.registers.specs.Status.{asleep}
+use Rattle.registers.specs.Status.{ecan, asleep}
 use Rattle.events.specs.declared.Event.{Event}
 use Rattle.events.specs.declared.Event.the-variants.{Refused, Register, Mailbox, Heard, Start, Outcome, ReceiveError, Recessive, Tick, Mode, Options, Reset}
 use Rattle.events.specs.Decode.{unknown, wakeful, disallowed, event, decoded}
@@ -37,22 +37,22 @@ module _ (s e : List ℕ) where
   refusal-bad g = rw g
 
   -- of a good image: refusals 2 to 4 are the decoder's, and the others are left
-  pub refusal-good : goodImage s ≡ true → refusal s e ≡ remaining s (decoded (asleep (blockOf s)) e)
+  pub refusal-good : goodImage s ≡ true → refusal s e ≡ remaining s (decoded (asleep (blockOf s)) (ecan (blockOf s)) e)
   unfolding refusal remaining
-  refusal-good g = at (unknown e) (wakeful e && asleep (blockOf s)) (disallowed e) refl refl refl
+  refusal-good g = at (unknown e) (wakeful e && asleep (blockOf s)) (disallowed (ecan (blockOf s)) e) refl refl refl
     where
-      at : (u w d : Bool) → unknown e ≡ u → (wakeful e && asleep (blockOf s)) ≡ w → disallowed e ≡ d
-          → refusal s e ≡ remaining s (decoded (asleep (blockOf s)) e)
-      at true w d p q r = rw (g, p) (sym (ap (remaining s) (unknown-refused (asleep (blockOf s)) e p)))
-      at false true d p q r = rw (g, p, q) (sym (ap (remaining s) (asleep-refused (asleep (blockOf s)) e p q)))
-      at false false true p q r = rw (g, p, q, r) (sym (ap (remaining s) (disallowed-refused (asleep (blockOf s)) e p q r)))
+      at : (u w d : Bool) → unknown e ≡ u → (wakeful e && asleep (blockOf s)) ≡ w → disallowed (ecan (blockOf s)) e ≡ d
+          → refusal s e ≡ remaining s (decoded (asleep (blockOf s)) (ecan (blockOf s)) e)
+      at true w d p q r = rw (g, p) (sym (ap (remaining s) (unknown-refused (asleep (blockOf s)) (ecan (blockOf s)) e p)))
+      at false true d p q r = rw (g, p, q) (sym (ap (remaining s) (asleep-refused (asleep (blockOf s)) (ecan (blockOf s)) e p q)))
+      at false false true p q r = rw (g, p, q, r) (sym (ap (remaining s) (disallowed-refused (asleep (blockOf s)) (ecan (blockOf s)) e p q r)))
       at false false false p q r =
-          rw (g, p, q, r) (rest s (event e) (never-refused e p) ∙ sym (ap (remaining s) (decoded-event (asleep (blockOf s)) e p q r)))
+          rw (g, p, q, r) (rest s (event e) (never-refused e p) ∙ sym (ap (remaining s) (decoded-event (asleep (blockOf s)) (ecan (blockOf s)) e p q r)))
 
   -- no other number is ever given
   pub refusal-most : refusal s e ≤ 7
   unfolding refusal
-  refusal-most = at (not (goodImage s)) (unknown e) (wakeful e && asleep (blockOf s)) (disallowed e) (busy (blockOf s) (event e)) (locked s (event e)) (pointless (blockOf s) (event e))
+  refusal-most = at (not (goodImage s)) (unknown e) (wakeful e && asleep (blockOf s)) (disallowed (ecan (blockOf s)) e) (busy (blockOf s) (event e)) (locked s (event e)) (pointless (blockOf s) (event e))
     where
       at : (a b c d f g h : Bool) → firstFrom 1 (a ∷ b ∷ c ∷ d ∷ f ∷ g ∷ h ∷ []) ≤ 7
       at true b c d f g h = lit≤ tt

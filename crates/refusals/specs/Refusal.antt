@@ -4,11 +4,12 @@ use mathlib.Core.Bool.{Bool, false, cond, not, _&&_, _||_}
 use mathlib.Core.List.{List, [], _∷_}
 use lib.Dec.{eqb, leb}
 use lib.Bits.{bitXor}
-use Rattle.bits.specs.Bit.{bit, without, setBit}
+use Rattle.bits.specs.Bit.{bit, without}
 use Rattle.bits.specs.Tests.{apart, firstFrom}
 use Rattle.registers.specs.declared.Block.{Block}
 use Rattle.registers.specs.Block.{blockOf, normal, configuration}
-use Rattle.registers.specs.Status.{vacant, filled, asleep}
+use Rattle.registers.specs.Status.{vacant, filled, ecan, asleep}
+use Rattle.registers.specs.Writes.{direction}
 use Rattle.mailboxes.specs.Mailbox.{mailboxWord, rfh}
 use Rattle.events.specs.declared.Event.{Event}
 use Rattle.events.specs.declared.Event.the-variants.{Refused, Register, Mailbox, Heard, Start, Outcome, ReceiveError, Recessive, Tick, Mode, Options, Reset}
@@ -19,12 +20,12 @@ use Rattle.good.specs.Good.{goodImage}
 abbrev pub meet : ℕ → ℕ → Bool
 meet a b = not (apart a b)
 
--- The mailboxes that an MC write turns off, and those whose direction an MD write changes: bit 31 is up before and after.
+-- The mailboxes that an MC write turns off, and those whose direction an MD write changes: bit 31 of a CAN-B is up before and after.
 abbrev pub turnedOff : Block → ℕ → ℕ
 turnedOff b v = without (b .mc) v
 
 abbrev pub turnedRound : Block → ℕ → ℕ
-turnedRound b v = bitXor (setBit v 31) (b .md)
+turnedRound b v = bitXor (direction b v) (b .md)
 
 -- The events, busy: a write of MC that turns off, or of MD that turns round, a mailbox with a request.
 abbrev pub registerBusy : Block → ℕ → ℕ → Bool
@@ -50,10 +51,16 @@ busy b (Mode m) = false
 busy b (Options v) = false
 busy b Reset = false
 
--- The events, locked: an MD write that turns round an enabled mailbox; the bit timing outside configuration.
+-- The events, locked: the registers of the other profile: the masks and the protection word of an eCAN, LAM and GAM of a CAN-B.
+abbrev pub foreign : Block → ℕ → Bool
+foreign b t = cond (ecan b) (eqb t 8 || eqb t 9) (leb 64 t)
+
+-- The events, locked: an MD write that turns round an enabled mailbox; the bit timing outside configuration; a register of the
+-- other profile.
 abbrev pub registerLocked : Block → ℕ → ℕ → Bool
 registerLocked b t v =
-    cond (eqb t 1) (meet (b .mc) (turnedRound b v)) ((eqb t 17 || eqb t 18) && not (eqb (b .mode) configuration))
+    cond (eqb t 1) (meet (b .mc) (turnedRound b v))
+    (((eqb t 17 || eqb t 18) && not (eqb (b .mode) configuration)) || foreign b t)
 
 -- The events, locked: of an enabled mailbox, word 0; the data words where it receives, and where it replies by itself and CDR
 -- does not hold it back.
@@ -116,7 +123,7 @@ reasons s e =
     not (goodImage s)
     ∷ unknown e
     ∷ (wakeful e && asleep (blockOf s))
-    ∷ disallowed e
+    ∷ disallowed (ecan (blockOf s)) e
     ∷ busy (blockOf s) (event e)
     ∷ locked s (event e)
     ∷ pointless (blockOf s) (event e)

@@ -6,7 +6,7 @@ ghost use lib.ListN.{length};
 ghost use Rattle.bits.specs.Tests.{firstFrom};
 ghost use Rattle.registers.specs.Block.{imageBytes, blockOf};
 ghost use Rattle.mailboxes.specs.Mailbox.{mailboxWord};
-ghost use Rattle.refusals.specs.Refusal.{meet as meetOf, turnedRound, registerBusy, mailboxBusy, registerLocked, dataLocked, mailboxLocked, timed, modeOpen, remaining, Fitting};
+ghost use Rattle.refusals.specs.Refusal.{meet as meetOf, turnedRound, registerBusy, mailboxBusy, foreign, registerLocked, dataLocked, mailboxLocked, timed, modeOpen, remaining, Fitting};
 use events::Event;
 use registers::Block;
 
@@ -21,7 +21,7 @@ fn meet(a: u32, b: u32) -> bool
 fn turned_round(b: Block, v: u32) -> u32
     ensures { λ r. ⌜ r ≡ turnedRound b v ⌝ }
 {
-    bits::set(v, 31) ^ b.md
+    b.direction(v) ^ b.md
 }
 
 fn is_register_busy(b: Block, t: u32, v: u32) -> bool
@@ -36,13 +36,24 @@ fn is_register_busy(b: Block, t: u32, v: u32) -> bool
     false
 }
 
+// Is register t one of the other profile's?
+fn is_foreign(b: Block, t: u32) -> bool
+    ensures { λ r. ⌜ r ≡ foreign b t ⌝ }
+{
+    if b.is_ecan() {
+        (t == 8) | (t == 9)
+    } else {
+        64 <= t
+    }
+}
+
 fn is_register_locked(b: Block, t: u32, v: u32) -> bool
     ensures { λ r. ⌜ r ≡ registerLocked b t v ⌝ }
 {
     if t == 1 {
         return meet(b.mc, turned_round(b, v));
     }
-    ((t == 17) | (t == 18)) & !(b.mode == 1)
+    (((t == 17) | (t == 18)) & !(b.mode == 1)) | is_foreign(b, t)
 }
 
 fn is_mailbox_busy(b: Block, n: u32) -> bool

@@ -1,16 +1,16 @@
 -- One bit of a flag word after each rule, for any mailbox m: what the rules say of one mailbox, shown once for all.
 use Prim.Native.Nat.{ℕ}
-use mathlib.Core.Path.{_≡_, refl, _∙_, ap, ap₂}
+use mathlib.Core.Path.{_≡_, refl, sym, _∙_, ap, ap₂}
 use mathlib.Core.Bool.{Bool, true, false, cond, not, _&&_, _||_, or-true, or-false, and-true, and-false}
 use lib.Dec.{eqb}
 use lib.Bits.{bitAnd, bitOr}
 use borrow.Author.Tests.{eq-eqb}
-use Rattle.bits.specs.Bit.{bit, mask, without, flag}
+use Rattle.bits.specs.Bit.{bit, mask, without, setBit, flag}
 use Rattle.bits.proofs.Laws.{bit-and, bit-or, bit-without, bit-mask, bit-flag, bit-zero}
 use Rattle.registers.specs.declared.Block.{Block}
 use Rattle.registers.specs.Block.{noMode}
-use Rattle.registers.specs.Status.{filled, asleep, busOff, passive, warning}
-use Rattle.registers.specs.Writes.{gifWith, slotMask, ending, late, requested, cancelled, released, noted, written}
+use Rattle.registers.specs.Status.{filled, ecan, asleep, busOff, passive, warning}
+use Rattle.registers.specs.Writes.{gifWith, slotMask, direction, ending, late, requested, cancelled, released, noted, written}
 use Rattle.registers.specs.Modes.{ticked, overflows, asked, rises, risen, entered, fallsAsleep, wakes}
 use Rattle.registers.specs.Frames.{listened, wakened, stored, replied}
 use Rattle.registers.specs.Sending.{sent, aborting, failed}
@@ -58,10 +58,14 @@ module _ (b : Block) (v m : ℕ) where
   unfolding written
   cleared-mbrif = bit-without (b .mbrif) v m
 
-  -- MD: the bit of the value, but bit 31 is up
-  pub directed-md : bit (written b 1 v .md) m ≡ (bit v m || eqb m 31)
-  unfolding written
-  directed-md = bit-or v (mask 31) m ∙ ap (λ (x : Bool). bit v m || x) (bit-mask 31 m)
+  -- MD: the bit of the value, but bit 31 of a CAN-B is up
+  pub directed-md : bit (written b 1 v .md) m ≡ (bit v m || not (ecan b) && eqb m 31)
+  unfolding written direction
+  directed-md = at (ecan b)
+    where
+      at : (t : Bool) → bit (cond t v (setBit v 31)) m ≡ (bit v m || not t && eqb m 31)
+      at true = sym (or-false (bit v m))
+      at false = bit-or v (mask 31) m ∙ ap (λ (x : Bool). bit v m || x) (bit-mask 31 m)
 
   -- TRR: which requests end at once, and which wait for the slot's outcome
   pub ending-bit : bit (ending b v) m ≡ ((bit v m && bit (b .trs) m) && not (bit (slotMask b) m))

@@ -2,7 +2,7 @@
 use mathlib.Core.Bool.{Bool, not, _||_}
 use lib.Dec.{eqb, ltb}
 use Rattle.registers.specs.declared.Block.{Block}
-use Rattle.registers.specs.Block.{sleep, emptySlot, busOffAt}
+use Rattle.registers.specs.Block.{sleep, emptySlot, busOffAt, eCan}
 
 -- The image, word 24: is a mailbox being sent?
 abbrev pub vacant : Block → Bool
@@ -10,6 +10,10 @@ vacant b = eqb (b .slot) emptySlot
 
 abbrev pub filled : Block → Bool
 filled b = not (vacant b)
+
+-- The profile: is it an eCAN?
+abbrev pub ecan : Block → Bool
+ecan b = eqb (b .profile) eCan
 
 abbrev pub asleep : Block → Bool
 asleep b = eqb (b .mode) sleep

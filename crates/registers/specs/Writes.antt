@@ -7,8 +7,8 @@ use lib.Bits.{bitAnd, bitOr}
 use lib.ListN.{getD}
 use Rattle.bits.specs.Bit.{bit, without, setBit, flag}
 use Rattle.registers.specs.declared.Block.{Block}
-use Rattle.registers.specs.Block.{withMc, withMd, withTrs, withTrr, withTa, withAa, withRmp, withRml, withLam, withGam, withRfp, withCdr, withMbtif, withMbrif, withMbim, withGif, withGim, withBcr1, withBcr2, withTsc, withTso}
-use Rattle.registers.specs.Status.{filled}
+use Rattle.registers.specs.Block.{withMc, withMd, withTrs, withTrr, withTa, withAa, withRmp, withRml, withLam, withGam, withRfp, withCdr, withMbtif, withMbrif, withMbim, withGif, withGim, withBcr1, withBcr2, withTsc, withTso, withProtection}
+use Rattle.registers.specs.Status.{filled, ecan}
 
 -- The mailbox in the slot, as a flag word: no bit where the slot is empty.
 abbrev pub slotMask : Block → ℕ
@@ -18,9 +18,12 @@ slotMask b = flag (filled b) (b .slot)
 abbrev pub gifWith : Block → Bool → ℕ → ℕ
 gifWith b t n = bitOr (b .gif) (flag t n)
 
--- Writing, MD: it takes the value, but mailbox 31 goes on receiving.
+-- Writing, MD: it takes the value, but mailbox 31 of a CAN-B goes on receiving.
+unfoldable pub direction : Block → ℕ → ℕ
+direction b v = cond (ecan b) v (setBit v 31)
+
 abbrev pub directed : Block → ℕ → Block
-directed b v = withMd b (setBit v 31)
+directed b v = withMd b (direction b v)
 
 -- Writing, TRS: a 1 asks for a sending, at transmit mailboxes only.
 unfoldable pub requested : Block → ℕ → Block
@@ -74,6 +77,10 @@ writes b v =
     ∷ withTsc b v
     ∷ []
 
--- Register t written with v; a number that is no register changes nothing.
+-- Writing, register 96 of an eCAN: the protection word takes the value.
+abbrev pub protectionNumber : ℕ
+protectionNumber = 96
+
+-- Register t written with v; a number that is no register of the block changes nothing.
 unfoldable pub written : Block → ℕ → ℕ → Block
-written b t v = getD (writes b v) t b
+written b t v = cond (eqb t protectionNumber) (withProtection b v) (getD (writes b v) t b)

@@ -7,13 +7,28 @@ mod writes;
 
 ghost use mathlib.Core.Path.{_≡_};
 ghost use lib.ListN.{length};
-ghost use Rattle.registers.specs.Block.{imageBytes, ofWords, toWords, blockOf, putBlock};
+ghost use Rattle.registers.specs.Block.{imageBytes, ofParts, firstWords, blockOf, putBlock};
 
-pub const IMAGE_BYTES: usize = 640;
+pub const IMAGE_BYTES: usize = 776;
 
 pub const REGISTERS_AT: usize = 512;
 
-// A field for each of the words 0 to 27; the words 28 to 31 are no part of the block.
+// A mask for each mailbox, then the protection word, then the profile.
+pub const MASKS_AT: usize = 640;
+
+pub const PROTECTION_AT: usize = 768;
+
+pub const PROFILE_AT: usize = 772;
+
+// The two profiles: the CAN-B of document 01, and the eCAN.
+pub const CAN_B: u32 = 0;
+
+pub const E_CAN: u32 = 1;
+
+// The slot when no mailbox is being sent.
+pub const EMPTY_SLOT: u32 = 32;
+
+// A field for each of the words 0 to 27, and for the two at the end of the image; the words 28 to 31 are no part of the block.
 pub struct Block {
     // 0: MC: the mailbox is enabled
     pub mc: u32,
@@ -63,7 +78,7 @@ pub struct Block {
     pub mode: u32,
     // 23: the mode that waits, 4 none
     pub waiting: u32,
-    // 24: the mailbox that is being sent, 31 none
+    // 24: the mailbox that is being sent, or EMPTY_SLOT
     pub slot: u32,
     // 25: how often eleven recessive bits were seen in bus off
     pub recovery: u32,
@@ -71,11 +86,15 @@ pub struct Block {
     pub options: u32,
     // 27: TSO: the time stamp counter overflowed
     pub tso: u32,
+    // eCAN: a mailbox that holds a frame is not overwritten
+    pub protection: u32,
+    // CAN_B or E_CAN
+    pub profile: u32,
 }
 
 impl Block {
-    fn from_words(row: [u32; 32]) -> Block
-        ensures { λ r. ⌜ r ≡ ofWords row ⌝ }
+    fn from_words(row: [u32; 28], protection: u32, profile: u32) -> Block
+        ensures { λ r. ⌜ r ≡ ofParts row protection profile ⌝ }
     {
         Block {
             mc: row[0],
@@ -106,11 +125,13 @@ impl Block {
             recovery: row[25],
             options: row[26],
             tso: row[27],
+            protection,
+            profile,
         }
     }
 
     fn to_words(self) -> [u32; 28]
-        ensures { λ r. ⌜ r ≡ toWords self ⌝ }
+        ensures { λ r. ⌜ r ≡ firstWords self ⌝ }
     {
         [
             self.mc,
@@ -149,7 +170,12 @@ impl Block {
         requires { ⌜ length (now s) ≡ imageBytes ⌝ }
         ensures { λ r. ⌜ r ≡ blockOf (now (s .entry)) ⌝ }
     {
-        Block::from_words(words::load_words(s, REGISTERS_AT))
+        let row = words::load_words(s, REGISTERS_AT);
+        Block::from_words(
+            row,
+            words::word_at(s, PROTECTION_AT),
+            words::word_at(s, PROFILE_AT),
+        )
     }
 
     // The block put into an image; no byte of a mailbox moves, and no spare word.
@@ -157,6 +183,8 @@ impl Block {
         requires { ⌜ length (now s) ≡ imageBytes ⌝ }
         ensures { λ r. ⌜ now (s .exit) ≡ putBlock (now (s .entry)) self ⌝ }
     {
-        words::put_words(s, REGISTERS_AT, self.to_words())
+        words::put_words(s, REGISTERS_AT, self.to_words());
+        words::put_word(s, PROTECTION_AT, self.protection);
+        words::put_word(s, PROFILE_AT, self.profile)
     }
 }

@@ -1,8 +1,10 @@
 // What starting and its outcome do to the block.
 ghost use mathlib.Core.Path.{_≡_};
-ghost use Prim.Native.Nat.{_<_, _≤_};
+ghost use Prim.Native.Nat.{_≤_};
+ghost use Rattle.registers.specs.Block.{emptySlot};
 ghost use Rattle.registers.specs.Sending.{eligible as eligibleOf, started, sent, failed, added as addedBy, concluded};
 use crate::Block;
+use crate::EMPTY_SLOT;
 use crate::frames::less_one;
 use crate::modes::at_most;
 
@@ -24,7 +26,7 @@ impl Block {
 
     // The slot's mailbox was sent.
     fn send(mut self) -> Block
-        requires { ⌜ self .slot < 32 ⌝ }
+        requires { ⌜ self .slot ≤ emptySlot ⌝ }
         ensures { λ r. ⌜ r ≡ sent self ⌝ }
     {
         let x = self.slot_mask();
@@ -33,13 +35,13 @@ impl Block {
         self.ta = self.ta | x;
         self.mbtif = self.mbtif | (self.mbim & x);
         self.tec = less_one(self.tec);
-        self.slot = 31;
+        self.slot = EMPTY_SLOT;
         self
     }
 
     // It was not; TEC rises by `more`.
     fn fail(mut self, more: u32) -> Block
-        requires { ⌜ (self .slot < 32) × (self .tec ≤ 256) × (more ≤ 8) ⌝ }
+        requires { ⌜ (self .slot ≤ emptySlot) × (self .tec ≤ 256) × (more ≤ 8) ⌝ }
         ensures { λ r. ⌜ r ≡ failed self more ⌝ }
     {
         let x = self.slot_mask() & self.trr;
@@ -48,7 +50,7 @@ impl Block {
         self.aa = self.aa | x;
         self.gif = self.gif | bits::flag(x != 0, 4);
         self.tec = at_most(256, self.tec + more);
-        self.slot = 31;
+        self.slot = EMPTY_SLOT;
         self
     }
 
@@ -61,7 +63,7 @@ impl Block {
 
     // What an outcome does: 0 is sent.
     pub fn conclude(self, kind: u32) -> Block
-        requires { ⌜ (self .slot < 32) × (self .tec ≤ 256) ⌝ }
+        requires { ⌜ (self .slot ≤ emptySlot) × (self .tec ≤ 256) ⌝ }
         ensures { λ r. ⌜ r ≡ concluded self kind ⌝ }
     {
         if kind == 0 {

@@ -1,14 +1,22 @@
 // What the registers say of the unit's state.
 ghost use mathlib.Core.Path.{_≡_};
-ghost use Rattle.registers.specs.Status.{vacant, asleep, busOff, passive, warning};
+ghost use Rattle.registers.specs.Status.{vacant, ecan, asleep, busOff, passive, warning};
 use crate::Block;
+use crate::E_CAN;
+use crate::EMPTY_SLOT;
 
 impl Block {
     // Is no mailbox in the slot?
     pub fn is_vacant(self) -> bool
         ensures { λ r. ⌜ r ≡ vacant self ⌝ }
     {
-        self.slot == 31
+        self.slot == EMPTY_SLOT
+    }
+
+    pub fn is_ecan(self) -> bool
+        ensures { λ r. ⌜ r ≡ ecan self ⌝ }
+    {
+        self.profile == E_CAN
     }
 
     pub fn is_asleep(self) -> bool

@@ -1,16 +1,27 @@
 // What the firmware's register writes do.
 ghost use mathlib.Core.Path.{_≡_};
-ghost use Prim.Native.Nat.{_<_};
-ghost use Rattle.registers.specs.Writes.{slotMask, requested as requestedOf, cancelled as cancelledOf, released as releasedOf, noted as notedOf, written as writtenOf};
+ghost use Prim.Native.Nat.{_≤_};
+ghost use Rattle.registers.specs.Block.{emptySlot};
+ghost use Rattle.registers.specs.Writes.{slotMask, direction as directionOf, requested as requestedOf, cancelled as cancelledOf, released as releasedOf, noted as notedOf, written as writtenOf};
 use crate::Block;
 
 impl Block {
     // The mailbox in the slot as a flag word.
     pub fn slot_mask(self) -> u32
-        requires { ⌜ self .slot < 32 ⌝ }
+        requires { ⌜ self .slot ≤ emptySlot ⌝ }
         ensures { λ r. ⌜ r ≡ slotMask self ⌝ }
     {
-        bits::flag(!self.is_vacant(), self.slot)
+        if self.is_vacant() {
+            return 0;
+        }
+        bits::mask(self.slot)
+    }
+
+    // MD: the value, but mailbox 31 of a CAN-B goes on receiving.
+    pub fn direction(self, v: u32) -> u32
+        ensures { λ r. ⌜ r ≡ directionOf self v ⌝ }
+    {
+        if self.is_ecan() { v } else { bits::set(v, 31) }
     }
 
     // TRS: a 1 asks for a sending, at transmit mailboxes only.
@@ -23,7 +34,7 @@ impl Block {
 
     // TRR: the request in the slot gets its cancel bit, each other one ends at once.
     fn cancel(mut self, v: u32) -> Block
-        requires { ⌜ self .slot < 32 ⌝ }
+        requires { ⌜ self .slot ≤ emptySlot ⌝ }
         ensures { λ r. ⌜ r ≡ cancelledOf self v ⌝ }
     {
         let slot = self.slot_mask();
@@ -57,12 +68,15 @@ impl Block {
 
     // Register t written with v, as a table: the value is taken, or a 1 clears, or one of the rules above.
     pub fn write(mut self, t: u32, v: u32) -> Block
-        requires { ⌜ self .slot < 32 ⌝ }
+        requires { ⌜ self .slot ≤ emptySlot ⌝ }
         ensures { λ r. ⌜ r ≡ writtenOf self t v ⌝ }
     {
         match t {
             0 => self.mc = v,
-            1 => self.md = bits::set(v, 31),
+            1 => {
+                let md = self.direction(v);
+                self.md = md;
+            }
             2 => return self.request(v),
             3 => return self.cancel(v),
             4 => self.ta = bits::without(self.ta, v),
@@ -81,6 +95,7 @@ impl Block {
             17 => self.bcr1 = v,
             18 => self.bcr2 = v,
             19 => self.tsc = v,
+            96 => self.protection = v,
             _ => {}
         }
         self

@@ -8,6 +8,7 @@ use lib.Dec.{lit≤}
 use lib.ListN.{length, length-append}
 use Rattle.answers.specs.Answer.{Outcome}
 use Rattle.model.specs.Step.{step}
+use Rattle.registers.specs.Block.{canB}
 use Rattle.fresh.specs.Fresh.{freshImage}
 use Rattle.texts.specs.Text.{decimal, field}
 use Rattle.trace.specs.Trace.{endOf, wellFormed, events, lineOf, line, lines, header, refusedLine, endWord, ending, run, listing, longest, space, feed}
@@ -46,10 +47,10 @@ module _ (f : List ℕ) (h : wellFormed f ≡ true) where
   pub run-most : length (run f) ≤ longest
   unfolding run
   run-most =
-      let l = lines 1 freshImage (events f) in
+      let l = lines 1 (freshImage canB) (events f) in
       let n = length (events f) in
       omega
-      (arith, length-append header (l ++ ending n), length-append l (ending n), lines-most 1 freshImage (events f) (omega (arith, events-most)), ending-most n (omega (arith, events-most)), events-most)
+      (arith, length-append header (l ++ ending n), length-append l (ending n), lines-most 1 (freshImage canB) (events f) (omega (arith, events-most)), ending-most n (omega (arith, events-most)), events-most)
 
 -- a listing is never longer than its bound
 pub listing-most : (f : List ℕ) → length (listing f) ≤ longest

@@ -8,6 +8,7 @@ use lib.Dec.{eqb, ltb}
 use lib.ListN.{length}
 use borrow.Author.Tests.{ne-eqb}
 use Rattle.model.specs.Step.{step}
+use Rattle.registers.specs.Block.{canB}
 use Rattle.fresh.specs.Fresh.{freshImage}
 use Rattle.texts.specs.Text.{decimalIn, decimal, field}
 use Rattle.trace.specs.Trace.{wellFormed, events, lineOf, line, lines, header, endWord, ending, run, listing, space, feed}
@@ -63,10 +64,10 @@ ending-feeds n = omega (arith, feeds-append endWord (field n feed), field-feeds 
 pub listing-feeds : (f : List ℕ) → wellFormed f ≡ true → feeds (listing f) ≡ length (events f) + 2
 unfolding listing run feeds
 listing-feeds f h =
-    let l = lines 1 freshImage (events f) in
+    let l = lines 1 (freshImage canB) (events f) in
     let n = length (events f) in
     rw h
-    (omega (arith, feeds-append header (l ++ ending n), feeds-append l (ending n), lines-feeds 1 freshImage (events f), ending-feeds n))
+    (omega (arith, feeds-append header (l ++ ending n), feeds-append l (ending n), lines-feeds 1 (freshImage canB) (events f), ending-feeds n))
 
 -- a malformed file's listing is one line
 pub refused-feeds : (f : List ℕ) → wellFormed f ≡ false → feeds (listing f) ≡ 1

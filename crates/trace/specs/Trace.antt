@@ -9,6 +9,7 @@ use Rattle.events.specs.Parts.{eventBytes}
 use Rattle.answers.specs.Answer.{Outcome}
 use Rattle.texts.specs.Text.{field}
 use Rattle.model.specs.Step.{step}
+use Rattle.registers.specs.Block.{canB}
 use Rattle.fresh.specs.Fresh.{freshImage}
 
 -- ---- the file: three sections, one behind the other
@@ -103,7 +104,7 @@ ending n = endWord ++ field n feed
 
 -- The trace program: the listing of a file that is well formed: it starts fresh.
 unfoldable pub run : List ℕ → List ℕ
-run f = header ++ (lines 1 freshImage (events f) ++ ending (length (events f)))
+run f = header ++ (lines 1 (freshImage canB) (events f) ++ ending (length (events f)))
 
 -- The trace program: the whole listing of any file.
 unfoldable pub listing : List ℕ → List ℕ

@@ -4,6 +4,7 @@ ghost use mathlib.Core.Bool.{true};
 ghost use Prim.Native.Nat.{_+_, _*_, _%_, _<_, _≤_};
 ghost use lib.ListN.{length, getD};
 ghost use Rattle.model.specs.Step.{step as stepOf};
+ghost use Rattle.registers.specs.Block.{canB};
 ghost use Rattle.fresh.specs.Fresh.{freshImage};
 ghost use Rattle.texts.specs.Text.{Put};
 ghost use Rattle.trace.specs.Trace.{countAt, endOf, second, third, takes as takesOf, placed, sound, wellFormed, section, events, line, lines, imageAfter, run as runOf, longest, Listed};
@@ -139,11 +140,11 @@ fn run_section(
 
 // All three sections, from a fresh model on.
 fn run_all(file: &[u8], out: &mut [u8], at: usize) -> usize
-    requires { ⌜ (wellFormed (now file) ≡ true) × (at + length (lines 1 freshImage (events (now file))) ≤ length (now out)) ⌝ }
-    ensures { λ r. ⌜ Put (now (out .entry)) at (lines 1 freshImage (events (now (file .entry)))) (now (out .exit)) r ⌝ }
+    requires { ⌜ (wellFormed (now file) ≡ true) × (at + length (lines 1 (freshImage canB) (events (now file))) ≤ length (now out)) ⌝ }
+    ensures { λ r. ⌜ Put (now (out .entry)) at (lines 1 (freshImage canB) (events (now (file .entry)))) (now (out .exit)) r ⌝ }
 {
-    let mut image = [0u8; 640];
-    fresh::fill_registers(&mut image);
+    let mut image = [0u8; 776];
+    fresh::fill_registers(&mut image, registers::CAN_B);
     let second = end_of(file, 0);
     let third = end_of(file, second);
     let first_count = count_at(file, 0) as u64;

@@ -1,5 +1,5 @@
 -- Words put where words were put before: the last ones stand.
-use Prim.Native.Nat.{ℕ, _+_, _/_, _%_, _≤_}
+use Prim.Native.Nat.{ℕ, _+_, _*_, _/_, _%_, _≤_}
 use mathlib.Core.Path.{_≡_, refl, sym, _∙_, ap}
 use mathlib.Core.List.{List, [], _∷_}
 use mathlib.Core.Logic.{_≢_}
@@ -89,6 +89,15 @@ unfolding putWords
 row-beside s at w to [] h = refl
 row-beside s at w to (v ∷ ws) h =
     ap (λ (l : List ℕ). putWords l (to + 4) ws) (put-beside s at w to v h) ∙ row-beside (putWord s to v) at w (to + 4) ws (omega arith)
+
+-- two rows beside each other, in either order
+pub rows-beside : (s : List ℕ) (at : ℕ) (ws : List ℕ) (to : ℕ) (vs : List ℕ) → at + 4 * length ws ≤ to
+    → putWords (putWords s at ws) to vs ≡ putWords (putWords s to vs) at ws
+unfolding putWords
+rows-beside s at [] to vs h = refl
+rows-beside s at (w ∷ ws) to vs h =
+    rows-beside (putWord s at w) (at + 4) ws to vs (omega arith)
+    ∙ ap (λ (l : List ℕ). putWords l (at + 4) ws) (row-beside s at w to vs (omega arith))
 
 -- a row of words over a row as long
 pub put-again : (s : List ℕ) (at : ℕ) (ws vs : List ℕ) → length ws ≡ length vs → putWords (putWords s at ws) at vs ≡ putWords s at vs

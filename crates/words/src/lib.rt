@@ -44,14 +44,14 @@ pub fn put_word(s: &mut [u8], at: usize, v: u32)
     s[at + 3] = (v / 16777216 % 256) as u8;
 }
 
-// 32 words in a row, the first at `at`.
-pub fn load_words(s: &[u8], at: usize) -> [u32; 32]
-    requires { ⌜ at + 128 ≤ length (now s) ⌝ }
-    ensures { λ r. ⌜ r ≡ wordsOf (now (s .entry)) at 32 ⌝ }
+// 28 words in a row, the first at `at`.
+pub fn load_words(s: &[u8], at: usize) -> [u32; 28]
+    requires { ⌜ at + 112 ≤ length (now s) ⌝ }
+    ensures { λ r. ⌜ r ≡ wordsOf (now (s .entry)) at 28 ⌝ }
 {
-    let mut row = [0u32; 32];
+    let mut row = [0u32; 28];
     let mut i: usize = 0;
-    while i < 32 {
+    while i < 28 {
         row[i] = word_at(s, at + 4 * i);
         i += 1;
     }

@@ -1,12 +1,12 @@
 use mathlib.Core.Path.{sym, _∙_}
 use Rattle.events.specs.Decode.{decodedAs}
-use Rattle.events.proofs.Laws.{operations, decoded-as, decoded-long, decoded-none, none-below, plain-or}
+use Rattle.events.proofs.Laws.{operations, decoded-as, decoded-long, decoded-none, none-below, plain-or, any-profile}
 use borrow.Author.Needs.{needs}
 use Rattle.events.proofs.decode.Statement.{statement}
 use Rattle.events.proofs.decode.Tie as tie
 
 returns : tie.Need-returns
-returns c = sym (decoded-long _ _ (c .if1 .taken))
+returns c = sym (decoded-long _ _ _ (c .if1 .taken))
 
 byte-at-requires : tie.Need-byte-at-requires
 byte-at-requires c κs = search needs
@@ -48,19 +48,21 @@ returns-2 : tie.Need-returns-2
 returns-2 c =
     let b = c .before .before in
     c .register-event .ensures
-    ∙ sym (decoded-as _ _ 0 (b .before .if1 .left) (sym (b .byte-at .ensures) ∙ c .before .match .keys1))
+    ∙ sym (decoded-as _ _ _ 0 (b .before .if1 .left) (sym (b .byte-at .ensures) ∙ c .before .match .keys1))
 
 returns-3 : tie.Need-returns-3
 returns-3 c =
     let b = c .before .before in
     c .mailbox-event .ensures
-    ∙ sym (decoded-as _ _ 1 (b .before .if1 .left) (sym (b .byte-at .ensures) ∙ c .before .match .keys2))
+    ∙ any-profile 0 _ _ _ _
+    ∙ sym (decoded-as _ _ _ 1 (b .before .if1 .left) (sym (b .byte-at .ensures) ∙ c .before .match .keys2))
 
 returns-4 : tie.Need-returns-4
 returns-4 c =
     let b = c .before .before in
     c .frame-event .ensures
-    ∙ sym (decoded-as _ _ 2 (b .before .if1 .left) (sym (b .byte-at .ensures) ∙ c .before .match .keys3))
+    ∙ any-profile 1 _ _ _ _
+    ∙ sym (decoded-as _ _ _ 2 (b .before .if1 .left) (sym (b .byte-at .ensures) ∙ c .before .match .keys3))
 
 returns-5 : tie.Need-returns-5
 unfolding decodedAs
@@ -68,19 +70,21 @@ returns-5 c =
     let b = c .before .before in
     c .plain-event .ensures
     ∙ plain-or _ _
-    ∙ sym (decoded-as _ _ 3 (b .before .if1 .left) (sym (b .byte-at .ensures) ∙ c .before .match .keys4))
+    ∙ sym (decoded-as _ _ _ 3 (b .before .if1 .left) (sym (b .byte-at .ensures) ∙ c .before .match .keys4))
 
 returns-6 : tie.Need-returns-6
 returns-6 c =
     let b = c .before .before in
     c .outcome-event .ensures
-    ∙ sym (decoded-as _ _ 4 (b .before .if1 .left) (sym (b .byte-at .ensures) ∙ c .before .match .keys5))
+    ∙ any-profile 3 _ _ _ _
+    ∙ sym (decoded-as _ _ _ 4 (b .before .if1 .left) (sym (b .byte-at .ensures) ∙ c .before .match .keys5))
 
 returns-7 : tie.Need-returns-7
 returns-7 c =
     let b = c .before .before in
     c .receive-error-event .ensures
-    ∙ sym (decoded-as _ _ 5 (b .before .if1 .left) (sym (b .byte-at .ensures) ∙ c .before .match .keys6))
+    ∙ any-profile 4 _ _ _ _
+    ∙ sym (decoded-as _ _ _ 5 (b .before .if1 .left) (sym (b .byte-at .ensures) ∙ c .before .match .keys6))
 
 returns-8 : tie.Need-returns-8
 unfolding decodedAs
@@ -88,7 +92,7 @@ returns-8 c =
     let b = c .before .before in
     c .plain-event2 .ensures
     ∙ plain-or _ _
-    ∙ sym (decoded-as _ _ 6 (b .before .if1 .left) (sym (b .byte-at .ensures) ∙ c .before .match .keys7))
+    ∙ sym (decoded-as _ _ _ 6 (b .before .if1 .left) (sym (b .byte-at .ensures) ∙ c .before .match .keys7))
 
 returns-9 : tie.Need-returns-9
 unfolding decodedAs
@@ -96,19 +100,21 @@ returns-9 c =
     let b = c .before .before in
     c .plain-event3 .ensures
     ∙ plain-or _ _
-    ∙ sym (decoded-as _ _ 7 (b .before .if1 .left) (sym (b .byte-at .ensures) ∙ c .before .match .keys8))
+    ∙ sym (decoded-as _ _ _ 7 (b .before .if1 .left) (sym (b .byte-at .ensures) ∙ c .before .match .keys8))
 
 returns-10 : tie.Need-returns-10
 returns-10 c =
     let b = c .before .before in
     c .mode-event .ensures
-    ∙ sym (decoded-as _ _ 8 (b .before .if1 .left) (sym (b .byte-at .ensures) ∙ c .before .match .keys9))
+    ∙ any-profile 7 _ _ _ _
+    ∙ sym (decoded-as _ _ _ 8 (b .before .if1 .left) (sym (b .byte-at .ensures) ∙ c .before .match .keys9))
 
 returns-11 : tie.Need-returns-11
 returns-11 c =
     let b = c .before .before in
     c .options-event .ensures
-    ∙ sym (decoded-as _ _ 9 (b .before .if1 .left) (sym (b .byte-at .ensures) ∙ c .before .match .keys10))
+    ∙ any-profile 8 _ _ _ _
+    ∙ sym (decoded-as _ _ _ 9 (b .before .if1 .left) (sym (b .byte-at .ensures) ∙ c .before .match .keys10))
 
 returns-12 : tie.Need-returns-12
 unfolding decodedAs
@@ -116,13 +122,13 @@ returns-12 c =
     let b = c .before .before in
     c .plain-event4 .ensures
     ∙ plain-or _ _
-    ∙ sym (decoded-as _ _ 10 (b .before .if1 .left) (sym (b .byte-at .ensures) ∙ c .before .match .keys11))
+    ∙ sym (decoded-as _ _ _ 10 (b .before .if1 .left) (sym (b .byte-at .ensures) ∙ c .before .match .keys11))
 
 returns-13 : tie.Need-returns-13
 returns-13 c =
     let b = c .before in
     let k = b .byte-at .result in
-    sym (decoded-as _ _ k (b .before .if1 .left) (sym (b .byte-at .ensures)) ∙ decoded-none _ _ k (none-below operations k (c .match .rest)))
+    sym (decoded-as _ _ _ k (b .before .if1 .left) (sym (b .byte-at .ensures)) ∙ decoded-none _ _ _ k (none-below operations k (c .match .rest)))
 
 pub decode-spec : {M : Type 1} → statement M
 decode-spec =

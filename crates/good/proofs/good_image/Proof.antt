@@ -15,6 +15,9 @@ good-layouts-requires c κs = search needs
 good-spare-requires : tie.Need-good-spare-requires
 good-spare-requires c κs = search needs
 
+good-masks-requires : tie.Need-good-masks-requires
+good-masks-requires c κs = search needs
+
 load-requires : tie.Need-load-requires
 load-requires c κs = search needs
 
@@ -25,9 +28,10 @@ returns-2 : tie.Need-returns-2
 unfolding goodImage
 returns-2 c =
     rw (
-      eq-eqb _ imageBytes (c .before .before .before .before .if1 .left),
-      c .before .before .before .good-layouts .ensures,
-      c .before .before .good-spare .ensures,
+      eq-eqb _ imageBytes (c .before .before .before .before .before .if1 .left),
+      c .before .before .before .before .good-layouts .ensures,
+      c .before .before .before .good-spare .ensures,
+      c .before .before .good-masks .ensures,
       c .good-block .ensures,
       c .before .load .ensures,
     )
@@ -39,6 +43,7 @@ good-image-spec =
     returns
     good-layouts-requires
     good-spare-requires
+    good-masks-requires
     load-requires
     good-block-requires
     returns-2)

@@ -24,7 +24,7 @@ write-mailbox-requires : tie.Need-write-mailbox-requires
 write-mailbox-requires c κs =
     let g = c .before .before .e3 .given in
     let z = c .before .before .before .before .before .pre .1 in
-    let w : Sized (Mailbox (g .0 .0) (g .0 .1 .0) (g .0 .1 .1 .0)) = rw (g .1) at z in
+    let w : Sized (c .before .before .before .before .before .args .image .now) (Mailbox (g .0 .0) (g .0 .1 .0) (g .0 .1 .1 .0)) = rw (g .1) at z in
     (c .before .before .before .before .before .pre .0, w .0, w .1)
 
 enum-known-e-4 : tie.Need-enum-known-e-4
@@ -45,7 +45,9 @@ enum-known-e-5 : tie.Need-enum-known-e-5
 enum-known-e-5 c = search needs
 
 conclude-requires : tie.Need-conclude-requires
-conclude-requires c κs = search needs
+conclude-requires c κs =
+    let z = c .before .before .before .before .before .pre .1 in
+    (c .before .before .before .before .before .pre .0, rw (c .before .before .e5 .given .1) at z)
 
 enum-known-e-6 : tie.Need-enum-known-e-6
 enum-known-e-6 c = search needs
@@ -88,7 +90,7 @@ reset-requires c κs = search needs
 returns : tie.Need-returns
 returns c =
     let z = c .before .before .before .before .before .pre .1 in
-    let none : Sized (Refused (c .before .before .e .given .0 .0)) = rw (c .before .before .e .given .1) at z in
+    let none : Sized (c .before .before .before .before .before .args .image .now) (Refused (c .before .before .e .given .0 .0)) = rw (c .before .before .e .given .1) at z in
     absurd none
 
 same-length : tie.Need-same-length

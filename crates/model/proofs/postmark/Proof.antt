@@ -15,11 +15,11 @@ load-requires c κs = search needs
 
 cast-put-stamp : tie.Need-cast-put-stamp
 cast-put-stamp c =
-    let h : c .before .before .load .result .slot < 32 = rw (c .before .before .load .ensures) (c .before .before .before .before .before .before .pre .slot) in
+    let h : c .before .before .load .result .slot < 32 = rw (c .before .before .load .ensures) (c .before .before .before .before .before .before .pre .1) in
     search (needs, h)
 
 put-stamp-requires : tie.Need-put-stamp-requires
-put-stamp-requires c κs = rw (c .before .before .load .ensures) (omega (arith, c .before .before .before .before .before .before .pre .size, c .before .before .before .before .before .before .pre .slot), c .before .before .before .before .before .before .pre .slot, c .before .before .before .before .before .before .pre .tsc)
+put-stamp-requires c κs = rw (c .before .before .load .ensures) (omega (arith, c .before .before .before .before .before .before .pre .0 .size, c .before .before .before .before .before .before .pre .1), c .before .before .before .before .before .before .pre .1, c .before .before .before .before .before .before .pre .0 .tsc)
 
 same-length : tie.Need-same-length
 same-length c = search needs

@@ -1,13 +1,18 @@
-use mathlib.Core.Path.{refl, _∙_, ap}
-use Rattle.registers.specs.Block.{putBlock}
+use mathlib.Core.Path.{refl, sym, _∙_, ap, ap₂}
+use Rattle.registers.specs.declared.Block.{Block}
+use Rattle.registers.specs.Block.{blockOf, putBlock}
 use Rattle.registers.specs.Modes.{risen}
 use Rattle.fresh.specs.Fresh.{freshBlock}
 use Rattle.events.specs.declared.Event.the-variants.{Reset}
-use Rattle.model.specs.Step.{own, goes, mailboxesAfter, named}
+use Rattle.model.specs.Step.{own, goes, unmasked, besideAfter, named}
 use Rattle.model.proofs.Meets.{acts}
+use Rattle.model.proofs.Beside.{unmasked-beside}
 use borrow.Author.Needs.{needs}
 use Rattle.model.proofs.reset.Statement.{statement}
 use Rattle.model.proofs.reset.Tie as tie
+
+clear-masks-requires : tie.Need-clear-masks-requires
+clear-masks-requires c κs = search needs
 
 load-requires : tie.Need-load-requires
 load-requires c κs = search needs
@@ -28,18 +33,21 @@ same-length : tie.Need-same-length
 same-length c = search needs
 
 returns : tie.Need-returns
-unfolding own goes mailboxesAfter named
+unfolding own goes besideAfter named
 returns c =
-    let s = c .before .before .before .before .before .before .before .before .before .before .args .image .now in
+    let s = c .before .before .before .before .before .before .before .before .before .before .before .before .before .before .args .image .now in
+    let boxes = c .before .before .before .before .before .before .before .before .before .before .before .clear-masks .ensures in
     let b = c .before .before .before .before .before .before .before .load .result in
-    acts s b (c .before .before .before .before .before .before .before .load .ensures) Reset freshBlock s 32 refl refl refl refl
-    (c .before .before .before .store .ensures ∙ ap (putBlock s) (c .before .before .before .before .before .rise .ensures ∙ ap (risen b) (c .before .before .before .before .before .before .fresh-block .ensures)))
+    let l = c .before .before .before .before .before .before .before .load .ensures ∙ ap blockOf boxes ∙ unmasked-beside s .block in
+    acts s b l Reset (freshBlock (b .profile)) (unmasked s) 32 (ap (λ (y : Block). freshBlock (y .profile)) (sym l)) refl refl refl
+    (c .before .before .before .store .ensures ∙ ap₂ putBlock boxes (c .before .before .before .before .before .rise .ensures ∙ ap (risen b) (c .before .before .before .before .before .before .fresh-block .ensures)))
     (c .pack .ensures)
 
 pub reset-spec : {M : Type 1} → statement M
 reset-spec =
     tie.close
     (tie.spec
+    clear-masks-requires
     load-requires
     fresh-block-requires
     rise-requires

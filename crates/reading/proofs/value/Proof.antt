@@ -1,11 +1,13 @@
 use mathlib.Core.Path.{sym, _∙_, ap}
 use native.Mathlib.Omega.{arith}
 use borrow.Author.Tests.{eq-eqb, ne-eqb}
-use Rattle.registers.specs.Status.{asleep}
+use Rattle.words.specs.Word.{wordAt}
+use Rattle.registers.specs.Status.{ecan, asleep}
+use Rattle.registers.specs.Block.{blockOf}
 use Rattle.good.proofs.Image.{good-length, good-slot}
 use Rattle.reading.specs.Gsr.{gsr}
 use Rattle.reading.specs.Read.{value}
-use Rattle.reading.proofs.Laws.{low-number}
+use Rattle.reading.proofs.Laws.{number-place, place-most, place-fits}
 use borrow.Author.Needs.{needs}
 use Rattle.reading.proofs.value.Statement.{statement}
 use Rattle.reading.proofs.value.Tie as tie
@@ -37,23 +39,23 @@ returns-2 c =
     rw (sym (c .before .before .before .is-asleep .ensures ∙ ap asleep (b .ensures)) ∙ c .before .before .if1 .left, eq-eqb _ 32 (c .before .if2 .taken))
     (c .gsr .ensures ∙ ap gsr (b .ensures))
 
-mul-word-at : tie.Need-mul-word-at
-mul-word-at c = search needs
-
-add-word-at : tie.Need-add-word-at
-add-word-at c = search needs
+place-requires : tie.Need-place-requires
+place-requires c κs =
+    let a = c .before .before .before .before .before in
+    place-most _ (number-place (ecan (blockOf (a .args .image .now))) (a .args .number) (a .pre .1) (c .if2 .left))
 
 word-at-requires : tie.Need-word-at-requires
 word-at-requires c κs =
-    let a = c .before .before .before .before .before in
-    omega (arith, good-length _ (a .pre .0), low-number _ (a .pre .1) (c .if2 .left))
+    let a = c .before .before .before .before .before .before in
+    let l = place-fits _ (number-place (ecan (blockOf (a .args .image .now))) (a .args .number) (a .pre .1) (c .before .if2 .left)) in
+    omega (arith, good-length _ (a .pre .0), c .place .ensures)
 
 returns-3 : tie.Need-returns-3
 unfolding value
 returns-3 c =
-    let b = c .before .before .before .before .load in
-    rw (sym (c .before .before .before .is-asleep .ensures ∙ ap asleep (b .ensures)) ∙ c .before .before .if1 .left, ne-eqb _ 32 (c .before .if2 .left))
-    (c .word-at .ensures)
+    let b = c .before .before .before .before .before .load in
+    rw (sym (c .before .before .before .before .is-asleep .ensures ∙ ap asleep (b .ensures)) ∙ c .before .before .before .if1 .left, ne-eqb _ 32 (c .before .before .if2 .left))
+    (c .word-at .ensures ∙ ap (wordAt _) (c .before .place .ensures))
 
 pub value-spec : {M : Type 1} → statement M
 value-spec =
@@ -65,7 +67,6 @@ value-spec =
     returns
     gsr-requires
     returns-2
-    mul-word-at
-    add-word-at
+    place-requires
     word-at-requires
     returns-3)

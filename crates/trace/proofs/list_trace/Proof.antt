@@ -3,6 +3,7 @@ use mathlib.Core.List.{_++_}
 use Prim.Native.Nat.{_+_}
 use native.Mathlib.Omega.{arith}
 use lib.ListN.{length}
+use Rattle.registers.specs.Block.{canB}
 use Rattle.fresh.specs.Fresh.{freshImage}
 use Rattle.trace.specs.Trace.{events, lines, ending, run}
 use Rattle.texts.proofs.Writing.{as-text, both-put, room, front}
@@ -21,7 +22,7 @@ run-all-requires : tie.Need-run-all-requires
 unfolding run
 run-all-requires c κs =
     let f = c .before .before .before .before .before .before .before .before .args .file .now in
-    let l = lines 1 freshImage (events f) in
+    let l = lines 1 (freshImage canB) (events f) in
     let e = ending (length (events f)) in
     let m = run-most f (c .before .before .before .before .before .before .before .before .pre .0) in
     (c .before .before .before .before .before .before .before .before .pre .0, front l e _ _ (room (c .before .before .before .put-text .ensures) (l ++ e) (omega (arith, c .before .before .before .before .before .before .before .before .pre .1))))
@@ -34,7 +35,7 @@ unfolding run
 put-ending-requires c κs =
     let f = c .before .before .before .before .before .before .before .before .before .before .before .before .before .args .file .now in
     let m = run-most f (c .before .before .before .before .before .before .before .before .before .before .before .before .before .pre .0) in
-    rw (c .event-count .ensures) (room (c .before .before .before .before .run-all .ensures) (ending (length (events f))) (room (c .before .before .before .before .before .before .before .before .put-text .ensures) (lines 1 freshImage (events f) ++ ending (length (events f))) (omega (arith, c .before .before .before .before .before .before .before .before .before .before .before .before .before .pre .1))))
+    rw (c .event-count .ensures) (room (c .before .before .before .before .run-all .ensures) (ending (length (events f))) (room (c .before .before .before .before .before .before .before .before .put-text .ensures) (lines 1 (freshImage canB) (events f) ++ ending (length (events f))) (omega (arith, c .before .before .before .before .before .before .before .before .before .before .before .before .before .pre .1))))
 
 same-length : tie.Need-same-length
 same-length c = search needs

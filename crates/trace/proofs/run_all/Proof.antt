@@ -2,7 +2,7 @@ use mathlib.Core.Path.{refl, _∙_, ap}
 use mathlib.Core.List.{List}
 use Prim.Native.Nat.{ℕ}
 use native.Mathlib.Omega.{arith}
-use Rattle.registers.specs.Block.{putBlock}
+use Rattle.registers.specs.Block.{putBlock, canB, imageBytes}
 use Rattle.fresh.specs.Fresh.{freshBlock, freshImage}
 use Rattle.fresh.proofs.Good.{zeros}
 use Rattle.trace.specs.Trace.{endOf}
@@ -36,7 +36,7 @@ run-section-requires : tie.Need-run-section-requires
 unfolding freshImage
 run-section-requires c κs =
     let start = c .before .before .before .before .before .before .before .before .before .before .before in
-    let img = c .before .before .before .before .before .before .before .fill-registers .ensures ∙ ap (λ (x : List ℕ). putBlock x freshBlock) (zeros 640 refl) in
+    let img = c .before .before .before .before .before .before .before .fill-registers .ensures ∙ ap (λ (x : List ℕ). putBlock x (freshBlock canB)) (zeros imageBytes refl) in
     (first-in (start .args .file .now) (start .pre .0), omega arith, omega arith, room-one (start .args .file .now) (start .args .out .now) (start .args .at) img (start .pre .1))
 
 slice-aggregate-run-section-2 : tie.Need-slice-aggregate-run-section-2
@@ -50,7 +50,7 @@ unfolding freshImage
 run-section-requires-2 c κs =
     let start = c .before .before .before .before .before .before .before .before .before .before .before .before .before .before .before .before .before in
     let f = start .args .file .now in
-    let img = c .before .before .before .before .before .before .before .before .before .before .before .before .before .fill-registers .ensures ∙ ap (λ (x : List ℕ). putBlock x freshBlock) (zeros 640 refl) in
+    let img = c .before .before .before .before .before .before .before .before .before .before .before .before .before .fill-registers .ensures ∙ ap (λ (x : List ℕ). putBlock x (freshBlock canB)) (zeros imageBytes refl) in
     let sv = c .before .before .before .before .before .before .before .before .before .before .before .end-of .ensures .0 in
     let n1 = c .before .before .before .before .before .before .before .before .before .count-at .ensures .0 in
     let one = c .before .before .before .before .before .run-section .ensures in
@@ -70,7 +70,7 @@ unfolding freshImage
 run-section-requires-3 c κs =
     let start = c .before .before .before .before .before .before .before .before .before .before .before .before .before .before .before .before .before .before .before .before .before .before .before in
     let f = start .args .file .now in
-    let img = c .before .before .before .before .before .before .before .before .before .before .before .before .before .before .before .before .before .before .before .fill-registers .ensures ∙ ap (λ (x : List ℕ). putBlock x freshBlock) (zeros 640 refl) in
+    let img = c .before .before .before .before .before .before .before .before .before .before .before .before .before .before .before .before .before .before .before .fill-registers .ensures ∙ ap (λ (x : List ℕ). putBlock x (freshBlock canB)) (zeros imageBytes refl) in
     let sv = c .before .before .before .before .before .before .before .before .before .before .before .before .before .before .before .before .before .end-of .ensures .0 in
     let tv = c .before .before .before .before .before .before .before .before .before .before .before .before .before .before .before .before .end-of2 .ensures .0 in
     let n1 = c .before .before .before .before .before .before .before .before .before .before .before .before .before .before .before .count-at .ensures .0 in
@@ -86,7 +86,7 @@ returns : tie.Need-returns
 unfolding freshImage
 returns c =
     let start = c .before .before .before .before .before .before .before .before .before .before .before .before .before .before .before .before .before .before .before .before .before .before .before .before .before .before .before in
-    let img = c .before .before .before .before .before .before .before .before .before .before .before .before .before .before .before .before .before .before .before .before .before .before .before .fill-registers .ensures ∙ ap (λ (x : List ℕ). putBlock x freshBlock) (zeros 640 refl) in
+    let img = c .before .before .before .before .before .before .before .before .before .before .before .before .before .before .before .before .before .before .before .before .before .before .before .fill-registers .ensures ∙ ap (λ (x : List ℕ). putBlock x (freshBlock canB)) (zeros imageBytes refl) in
     let sv = c .before .before .before .before .before .before .before .before .before .before .before .before .before .before .before .before .before .before .before .before .before .end-of .ensures .0 in
     let tv = c .before .before .before .before .before .before .before .before .before .before .before .before .before .before .before .before .before .before .before .before .end-of2 .ensures .0 in
     let n1 = c .before .before .before .before .before .before .before .before .before .before .before .before .before .before .before .before .before .before .before .count-at .ensures .0 in

@@ -5,11 +5,14 @@ use native.Mathlib.Omega.{arith}
 use Rattle.bits.specs.Bit.{flag}
 use lib.Dec.{eqb}
 use Rattle.registers.specs.Status.{filled, asleep, busOff, passive, warning}
-use Rattle.reading.specs.Gsr.{gsr}
-use Rattle.reading.proofs.Fields.{Sum, next}
+use Rattle.reading.specs.Gsr.{shownSlot, gsr}
+use Rattle.reading.proofs.Fields.{Sum, next, shown-most}
 use borrow.Author.Needs.{needs}
 use Rattle.reading.proofs.gsr.gsr.Statement.{statement}
 use Rattle.reading.proofs.gsr.gsr.Tie as tie
+
+shown-slot-requires : tie.Need-shown-slot-requires
+shown-slot-requires c κs = search needs
 
 is-vacant-requires : tie.Need-is-vacant-requires
 is-vacant-requires c κs = search needs
@@ -60,9 +63,11 @@ returns c =
     let k10 = k8 .before .before in
     let k12 = k10 .before .before in
     let k14 = k12 .before .before in
-    let s = k14 .before .before .before in
+    let k16 = k14 .before .before in
+    let s = k16 .before in
     let b = s .args .b in
-    let slot : Sum (b .slot * 4096 % 4294967296) (b .slot * 4096) 12 = record { same = omega (arith, s .pre); above = omega arith } in
+    let slot : Sum (k16 .shown-slot .result * 4096 % 4294967296) (shownSlot b * 4096) 12 =
+    record { same = omega (arith, k16 .shown-slot .ensures, shown-most b (s .pre)); above = omega arith } in
     next 0 (warning b) 0 (c .flag8 .ensures ∙ ap (λ (t : Bool). flag t 0) (c .before .is-warned .ensures))
     (next 0 (passive b) 1 (k2 .flag7 .ensures ∙ ap (λ (t : Bool). flag t 1) (k2 .before .is-passive .ensures))
     (next 0 (busOff b) 2 (k4 .flag6 .ensures ∙ ap (λ (t : Bool). flag t 2) (k4 .before .is-bus-off .ensures))
@@ -77,6 +82,7 @@ pub gsr-spec : {M : Type 1} → statement M
 gsr-spec =
     tie.close
     (tie.spec
+    shown-slot-requires
     is-vacant-requires
     flag-requires
     flag-requires-2
