@@ -13,7 +13,7 @@ use Rattle.bits.proofs.Sets.{and-l, and-r}
 use Rattle.texts.proofs.Parts.{parts-none, parts-one, parts-more, parts-both, parts-length}
 use Rattle.compare.specs.declared.Entry.{Entry}
 use Rattle.compare.specs.Compare.{imageWords, imageWord, difference, differencesBelow, differences, entryBytes, listBytes}
-use Rattle.compare.specs.Terms.{same, sameTwo, sameFour, oneBytes, fourBytes}
+use Rattle.compare.specs.Terms.{same, sameTwo, sameFour, oneBytes, twoBytes, fourBytes}
 
 -- ---- one word
 
@@ -113,30 +113,29 @@ pub list-both : (es fs : List Entry) → listBytes (es ++ fs) ≡ listBytes es +
 unfolding listBytes
 list-both = parts-both entryBytes
 
--- four words more
+-- two words more, or four
 module _ (a b : List ℕ) where
-  one-more : (k : ℕ) → listBytes (differencesBelow a b (k + 1)) ≡ listBytes (differencesBelow a b k) ++ oneBytes a b k
+  abbrev text : ℕ → List ℕ
+  text k = listBytes (differencesBelow a b k)
+
+  one-more : (k : ℕ) → text (k + 1) ≡ text k ++ oneBytes a b k
   one-more k = ap listBytes (below-next a b k) ∙ list-both (differencesBelow a b k) (difference a b k)
 
-  pub four-more : (k : ℕ) → listBytes (differencesBelow a b (k + 4)) ≡ listBytes (differencesBelow a b k) ++ fourBytes a b k
+  pub two-more : (k : ℕ) → text (k + 2) ≡ text k ++ twoBytes a b k
+  two-more k =
+      let e : k + 2 ≡ k + 1 + 1 = omega arith in
+      ap text e
+      ∙ one-more (k + 1)
+      ∙ ap (λ (l : List ℕ). l ++ oneBytes a b (k + 1)) (one-more k)
+      ∙ append-assoc (text k) (oneBytes a b k) (oneBytes a b (k + 1))
+
+  pub four-more : (k : ℕ) → text (k + 4) ≡ text k ++ fourBytes a b k
   four-more k =
-      let e2 : k + 1 + 1 ≡ k + 2 = omega arith in
-      let e3 : k + 2 + 1 ≡ k + 3 = omega arith in
-      let e4 : k + 3 + 1 ≡ k + 4 = omega arith in
-      let t : ℕ → List ℕ = λ n. listBytes (differencesBelow a b n) in
-      let f1 = oneBytes a b (k + 1) in
-      let f2 = oneBytes a b (k + 2) in
-      let f3 = oneBytes a b (k + 3) in
-      let g2 : t (k + 2) ≡ t (k + 1) ++ f1 = ap t (sym e2) ∙ one-more (k + 1) in
-      let g3 : t (k + 3) ≡ t (k + 2) ++ f2 = ap t (sym e3) ∙ one-more (k + 2) in
-      let g4 : t (k + 4) ≡ t (k + 3) ++ f3 = ap t (sym e4) ∙ one-more (k + 3) in
-      g4
-      ∙ ap (λ (l : List ℕ). l ++ f3) g3
-      ∙ append-assoc (t (k + 2)) f2 f3
-      ∙ ap (λ (l : List ℕ). l ++ (f2 ++ f3)) g2
-      ∙ append-assoc (t (k + 1)) f1 (f2 ++ f3)
-      ∙ ap (λ (l : List ℕ). l ++ (f1 ++ (f2 ++ f3))) (one-more k)
-      ∙ append-assoc (t k) (oneBytes a b k) (f1 ++ (f2 ++ f3))
+      let e : k + 4 ≡ k + 2 + 2 = omega arith in
+      ap text e
+      ∙ two-more (k + 2)
+      ∙ ap (λ (l : List ℕ). l ++ twoBytes a b (k + 2)) (two-more k)
+      ∙ append-assoc (text k) (twoBytes a b k) (twoBytes a b (k + 2))
 
 -- 12 an entry
 pub length-list : (es : List Entry) → length (listBytes es) ≡ 12 * length es

@@ -8,6 +8,7 @@ use native.Mathlib.Omega.{arith}
 use lib.ListN.{length}
 use Rattle.bits.proofs.Sets.{and-l, and-r}
 use Rattle.texts.specs.Text.{Put}
+use Rattle.registers.specs.Block.{imageBytes}
 use Rattle.good.specs.Good.{goodImage}
 use Rattle.good.proofs.Image.{good-length}
 use Rattle.answers.specs.Answer.{noMailbox, packed, Refuses, Fitted}
@@ -17,10 +18,10 @@ use Rattle.compare.specs.Terms.{bothGood}
 use Rattle.compare.proofs.Below.{length-list}
 
 module _ (a b : List ℕ) where
-  pub long-first : bothGood a b ≡ true → length a ≡ 640
+  pub long-first : bothGood a b ≡ true → length a ≡ imageBytes
   long-first h = good-length a (and-l (goodImage a) (goodImage b) h)
 
-  pub long-second : bothGood a b ≡ true → length b ≡ 640
+  pub long-second : bothGood a b ≡ true → length b ≡ imageBytes
   long-second h = good-length b (and-r (goodImage a) (goodImage b) h)
 
   -- how long the bytes of a list are

@@ -16,6 +16,7 @@ use Rattle.words.specs.Bytes.{Bytes}
 use Rattle.words.specs.Word.{wordAt}
 use Rattle.words.proofs.Laws.{length-put, word-same, word-other, word-by-bytes, bytes-of}
 use Rattle.words.proofs.Bytes.{bytes-put, word-lt}
+use Rattle.registers.specs.Block.{imageBytes}
 use Rattle.compare.specs.declared.Entry.{Entry}
 use Rattle.compare.specs.Compare.{imageWords, imageWord, difference, differencesBelow, differences, entrySize, entryBytes, listBytes}
 use Rattle.compare.specs.Faithful.{IsListed, Change, Changes, changed, applied, Holds, Faithful}
@@ -150,7 +151,7 @@ untouched a k n (e ∷ es) c s i (inr l) =
     let m = c .1 in
     untouched a (e .number + 1) n es (c .3) (changed s e) i (inr l) ∙ word-other s (4 * e .number) (e .second) (4 * i) (inr (omega arith))
 
-module _ (a b : List ℕ) (p : Bytes a) (q : Bytes b) (long : length a ≡ 640) (sized : length b ≡ 640) where
+module _ (a b : List ℕ) (p : Bytes a) (q : Bytes b) (long : length a ≡ imageBytes) (sized : length b ≡ imageBytes) where
   -- the first image, changed in the words below n
   abbrev halfway : ℕ → List ℕ
   halfway n = applied a (differencesBelow a b n)
@@ -226,7 +227,7 @@ split a n k (e ∷ es) c = ⊎-elim (λ r. at (ltb (e .number) n) refl r) behind
           others = (c .0, omega arith, c .2, l .others);
         })
 
-module _ (a b : List ℕ) (long : length a ≡ 640) where
+module _ (a b : List ℕ) (long : length a ≡ imageBytes) where
   -- a list whose words below n are those of b
   abbrev Makes : ℕ → List Entry → Type 0
   Makes n es = (i : ℕ) → i < n → imageWord (applied a es) i ≡ imageWord b i

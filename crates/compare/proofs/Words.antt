@@ -6,6 +6,7 @@ use native.Mathlib.Omega.{arith}
 use lib.ListN.{getD, length}
 use lib.Seq.{ext-getD}
 use Rattle.words.specs.Bytes.{Bytes}
+use Rattle.registers.specs.Block.{imageBytes}
 use Rattle.mailboxes.proofs.Spliced.{byteOf, word-byte}
 use Rattle.compare.specs.Compare.{imageWords, imageWord}
 
@@ -16,5 +17,5 @@ module _ (x y : List ℕ) (p : Bytes x) (q : Bytes y) where
       subst (λ (j : ℕ). getD x j 0 ≡ getD y j 0) e
       (sym (word-byte x (4 * (i / 4)) (i % 4) p (omega arith)) ∙ ap (λ (w : ℕ). byteOf w (i % 4)) h ∙ word-byte y (4 * (i / 4)) (i % 4) q (omega arith))
 
-  pub same-words : length x ≡ 640 → length y ≡ 640 → ((k : ℕ) → k < imageWords → imageWord x k ≡ imageWord y k) → x ≡ y
+  pub same-words : length x ≡ imageBytes → length y ≡ imageBytes → ((k : ℕ) → k < imageWords → imageWord x k ≡ imageWord y k) → x ≡ y
   same-words a b h = ext-getD 0 x y (a ∙ sym b) (λ i l. same-byte i (h (i / 4) (omega arith)))

@@ -9,9 +9,10 @@ use Rattle.texts.specs.Text.{wordBytes}
 use Rattle.answers.specs.Answer.{Refuses, Fitted}
 use Rattle.compare.specs.declared.Entry.{Entry}
 
--- Comparing two images: a word's number is its place in the whole image, 0 to 159: four words of each mailbox, then the 32 register words.
+-- Comparing two images: a word's number is its place in the whole image, 0 to 193: four words of each mailbox, the 32 register words, a mask
+-- for each mailbox, the protection word, the profile.
 abbrev pub imageWords : ℕ
-imageWords = 160
+imageWords = 194
 
 abbrev pub imageWord : List ℕ → ℕ → ℕ
 imageWord s k = wordAt s (4 * k)

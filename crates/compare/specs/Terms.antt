@@ -21,9 +21,12 @@ sameTwo a b k = same a b k && same a b (k + 1)
 abbrev pub sameFour : List ℕ → List ℕ → ℕ → Bool
 sameFour a b k = sameTwo a b k && sameTwo a b (k + 2)
 
--- The bytes of what is listed of word k, and of four words from there on.
+-- The bytes of what is listed of word k, and of two words, or four, from there on.
 abbrev pub oneBytes : List ℕ → List ℕ → ℕ → List ℕ
 oneBytes a b k = listBytes (difference a b k)
 
+abbrev pub twoBytes : List ℕ → List ℕ → ℕ → List ℕ
+twoBytes a b k = oneBytes a b k ++ oneBytes a b (k + 1)
+
 abbrev pub fourBytes : List ℕ → List ℕ → ℕ → List ℕ
-fourBytes a b k = oneBytes a b k ++ (oneBytes a b (k + 1) ++ (oneBytes a b (k + 2) ++ oneBytes a b (k + 3)))
+fourBytes a b k = twoBytes a b k ++ twoBytes a b (k + 2)

@@ -7,12 +7,13 @@ ghost use Rattle.registers.specs.Block.{imageBytes};
 ghost use Rattle.texts.specs.Text.{Put};
 ghost use Rattle.answers.specs.Answer.{noMailbox, packed, Fitted};
 ghost use Rattle.compare.specs.Compare.{imageWords, imageWord, differences, entrySize, entryBytes, listBytes, Compares};
-ghost use Rattle.compare.specs.Terms.{bothGood, sameTwo, sameFour, oneBytes, fourBytes};
+ghost use Rattle.compare.specs.Terms.{bothGood, sameTwo, sameFour, oneBytes, twoBytes, fourBytes};
 
-const IMAGE_WORDS: usize = 160;
+// The words that are passed over four at once; behind them are two.
+const BY_FOURS: usize = 192;
 
 // Room for any list: 12 bytes for each word.
-const LONGEST: usize = 1920;
+const LONGEST: usize = 2328;
 
 // One differing word: its number in the image, and both contents.
 pub struct Entry {
@@ -74,31 +75,37 @@ fn put_difference(first: &[u8], second: &[u8], k: usize, list: &mut [u8], at: us
     )
 }
 
+fn put_two(first: &[u8], second: &[u8], k: usize, list: &mut [u8], at: usize) -> usize
+    requires { ⌜ (length (now first) ≡ imageBytes) × (length (now second) ≡ imageBytes) × (k + 2 ≤ imageWords) × (at + length (twoBytes (now first) (now second) k) ≤ length (now list)) ⌝ }
+    ensures { λ r. ⌜ Put (now (list .entry)) at (twoBytes (now (first .entry)) (now (second .entry)) k) (now (list .exit)) r ⌝ }
+{
+    let a = put_difference(first, second, k, list, at);
+    put_difference(first, second, k + 1, list, a)
+}
+
 fn put_four(first: &[u8], second: &[u8], k: usize, list: &mut [u8], at: usize) -> usize
     requires { ⌜ (length (now first) ≡ imageBytes) × (length (now second) ≡ imageBytes) × (k + 4 ≤ imageWords) × (at + length (fourBytes (now first) (now second) k) ≤ length (now list)) ⌝ }
     ensures { λ r. ⌜ Put (now (list .entry)) at (fourBytes (now (first .entry)) (now (second .entry)) k) (now (list .exit)) r ⌝ }
 {
-    let a = put_difference(first, second, k, list, at);
-    let b = put_difference(first, second, k + 1, list, a);
-    let c = put_difference(first, second, k + 2, list, b);
-    put_difference(first, second, k + 3, list, c)
+    let a = put_two(first, second, k, list, at);
+    put_two(first, second, k + 2, list, a)
 }
 
 // The list, at the front of bytes that have room for it. Of two images of one run most words are the same: four of them are
-// passed over at once.
+// passed over at once. The last two are the protection word and the profile.
 fn put_list(first: &[u8], second: &[u8], list: &mut [u8]) -> usize
     requires { ⌜ (length (now first) ≡ imageBytes) × (length (now second) ≡ imageBytes) × (entrySize * length (differences (now first) (now second)) ≤ length (now list)) ⌝ }
     ensures { λ r. ⌜ Put (now (list .entry)) 0 (listBytes (differences (now (first .entry)) (now (second .entry)))) (now (list .exit)) r ⌝ }
 {
     let mut at: usize = 0;
     let mut k: usize = 0;
-    while k < IMAGE_WORDS {
+    while k < BY_FOURS {
         if !same_four(first, second, k) {
             at = put_four(first, second, k, list, at);
         }
         k += 4;
     }
-    at
+    put_two(first, second, BY_FOURS, list, at)
 }
 
 // The answer for a list that ends there.
@@ -114,7 +121,7 @@ fn tell_if_it_fits(first: &[u8], second: &[u8], list: &mut [u8]) -> u64
     requires { ⌜ (length (now first) ≡ imageBytes) × (length (now second) ≡ imageBytes) ⌝ }
     ensures { λ r. ⌜ Fitted (length (differences (now (first .entry)) (now (second .entry)))) (listBytes (differences (now (first .entry)) (now (second .entry)))) (now (list .entry)) (now (list .exit)) r ⌝ }
 {
-    let mut apart = [0u8; 1920];
+    let mut apart = [0u8; 2328];
     let end = put_list(first, second, &mut apart);
     texts::tell(list, &apart[..end], (end / 12) as u32)
 }

@@ -26,20 +26,20 @@ use Rattle.rules.proofs.Refusals.{frame-refused}
 use Rattle.explain.specs.declared.Reason.{Reason}
 use Rattle.explain.specs.Explain.{lines, unheard, explained, listBytes, refusal, ExplainCall}
 use Rattle.explain.specs.Terms.{explainedBy}
-use Rattle.explain.proofs.Reasons.{same-reasons}
+use Rattle.explain.proofs.Reasons.{same-order, same-reasons}
 use Rattle.explain.proofs.Lines.{same-fitted}
 
 -- the code's lines are the rule's
 same-lines : (s e : List ℕ) → explainedBy s (frameOf e) ≡ explained s e
 unfolding explained blockOf wordsOf
 same-lines s e =
-    ap (λ (r : ℕ → Reason). cond (onBus (words s)) (lines r) (unheard (words s MODE) (busOff (words s)))) (same-reasons s e)
+    λ i. cond (onBus (words s)) (lines (same-order s i) (same-reasons s e i)) (unheard (words s MODE) (busOff (words s)))
 
 -- ---- the event
 
-pub same-refusal : (e : List ℕ) → Bytes e → frameRefusal e ≡ refusal e
+pub same-refusal : (s e : List ℕ) → Bytes e → frameRefusal e ≡ refusal s e
 unfolding frameRefusal
-same-refusal e b = ap (λ (t : Bool). cond (not (length e is 16 && operation e is 2)) 2 (cond t 4 0)) (frame-refused e b)
+same-refusal s e b = ap (λ (t : Bool). cond (not (length e is 16 && operation e is 2)) 2 (cond t 4 0)) (frame-refused e b (words s))
 
 -- what is not refused is 16 bytes
 pub a-frame-long : (e : List ℕ) → frameRefusal e ≡ 0 → length e ≡ eventBytes
@@ -66,7 +66,7 @@ module _ (s e o x : List ℕ) (r : ℕ) (bytes : Bytes s) where
   module _ (small : Bytes e) (h : goodImage s ≡ true) where
     pub event-refused : frameRefusal e ≢ 0 → Refuses (frameRefusal e) o x r → ExplainCall s e o x r
     event-refused d t =
-        let q = same-refusal e small in
+        let q = same-refusal s e small in
         record {
           bad-image = λ n. absurd (n (good-rule s bytes h));
           bad-event = λ g z. subst (λ (k : ℕ). Refuses k o x r) q t;
@@ -77,15 +77,15 @@ module _ (s e o x : List ℕ) (r : ℕ) (bytes : Bytes s) where
     lines-told z t =
         record {
           bad-image = λ n. absurd (n (good-rule s bytes h));
-          bad-event = λ g d. absurd (d (sym (same-refusal e small) ∙ z));
+          bad-event = λ g d. absurd (d (sym (same-refusal s e small) ∙ z));
           told = λ g q. same-fitted (same-lines s e) t;
         }
 
 -- Why did it land there: two outcomes that meet the promise are the same
 pub explain-unique : (s e : List ℕ) → Bytes s → (o x y : List ℕ) (r q : ℕ) → ExplainCall s e o x r → ExplainCall s e o y q → (x ≡ y) × (r ≡ q)
-explain-unique s e bytes o x y r q c d = at (goodImage s) refl (ℕ-discrete (refusal e) 0)
+explain-unique s e bytes o x y r q c d = at (goodImage s) refl (ℕ-discrete (refusal s e) 0)
   where
-    at : (t : Bool) → goodImage s ≡ t → Dec (refusal e ≡ 0) → (x ≡ y) × (r ≡ q)
+    at : (t : Bool) → goodImage s ≡ t → Dec (refusal s e ≡ 0) → (x ≡ y) × (r ≡ q)
     at false h k =
         let n : Good s → ⊥ = λ g. false≢true (sym h ∙ rule-good s bytes g) in
         same-end (c .bad-image n) (d .bad-image n)

@@ -1,11 +1,11 @@
--- The lines: those of the mailboxes below a number, their bytes, and where they end.
+-- The lines: those of the mailboxes before a place of the search, their bytes, and where they end.
 use Prim.Native.Nat.{ℕ, zero, suc, _+_, _*_, _/_, _%_, _<_, _≤_}
 use mathlib.Core.Path.{_≡_, refl, sym, _∙_, ap, subst}
 use mathlib.Core.Bool.{Bool, true, false, cond}
 use mathlib.Core.List.{List, [], _∷_, _++_}
 use mathlib.Core.Logic.{_⊎_, inl, inr, ⊎-elim}
 use native.Mathlib.Decide.{ℕ-discrete}
-use native.Mathlib.Nat.{mod-eq-of-lt}
+use native.Mathlib.Nat.{add-zero, mod-eq-of-lt}
 use native.Mathlib.Numerals.{add-one}
 use native.Mathlib.Omega.{arith}
 use lib.Dec.{ltb}
@@ -20,13 +20,15 @@ use Rattle.registers.specs.Block.{blockOf}
 use Rattle.registers.specs.Status.{busOff}
 use Rattle.registers.specs.Modes.{onBus}
 use Rattle.events.specs.declared.Frame.{Frame}
-use Rattle.rules.specs.Words.{among}
+use Rattle.filter.specs.Filter.{seat}
+use Rattle.rules.specs.Words.{Words, among}
+use Rattle.rules.specs.Receiving.{seat as ordered}
 use Rattle.explain.specs.declared.Reason.{Reason}
 use Rattle.explain.specs.declared.Reason.the-variants.{NotHeard}
 use Rattle.explain.specs.declared.Line.{Line}
 use Rattle.explain.specs.Explain.{number, linesBelow, isMatched, lineCount, lines, unheard, lineBytes, listBytes}
 use Rattle.explain.specs.Terms.{reasonBy, explainedBy}
-use Rattle.explain.specs.Agreement.{IsTold, Numbered, wasCompared, comparisons}
+use Rattle.explain.specs.Agreement.{IsTold, InOrder, wasCompared, comparisons}
 
 -- ---- bytes
 
@@ -72,32 +74,32 @@ state-small false mode h = omega arith
 pub same-fitted : {ls ms : List Line} {o x : List ℕ} {r : ℕ} → ls ≡ ms → Fitted (length ls) (listBytes ls) o x r → Fitted (length ms) (listBytes ms) o x r
 same-fitted {o = o} {x = x} {r = r} e = subst (λ (l : List Line). Fitted (length l) (listBytes l) o x r) e
 
--- ---- the lines below a number
+-- ---- the lines before a place
 
-module _ (r : ℕ → Reason) where
+module _ (order : ℕ → ℕ) (r : ℕ → Reason) where
   abbrev line : ℕ → Line
-  line n = record { mailbox = n; reason = r n }
+  line k = record { mailbox = order k; reason = r (order k) }
 
   -- one more
-  pub text-next : (k : ℕ) → listBytes (linesBelow r (k + 1)) ≡ listBytes (linesBelow r k) ++ lineBytes (line k)
+  pub text-next : (k : ℕ) → listBytes (linesBelow order r (k + 1)) ≡ listBytes (linesBelow order r k) ++ lineBytes (line k)
   unfolding linesBelow
   text-next k =
-      ap (λ (n : ℕ). listBytes (linesBelow r n)) (add-one k)
-      ∙ text-both (linesBelow r k) (line k ∷ [])
-      ∙ ap (λ (t : List ℕ). listBytes (linesBelow r k) ++ t) (text-one (line k))
+      ap (λ (n : ℕ). listBytes (linesBelow order r n)) (add-one k)
+      ∙ text-both (linesBelow order r k) (line k ∷ [])
+      ∙ ap (λ (t : List ℕ). listBytes (linesBelow order r k) ++ t) (text-one (line k))
 
-  pub none-below : listBytes (linesBelow r 0) ≡ []
+  pub none-below : listBytes (linesBelow order r 0) ≡ []
   unfolding linesBelow
   none-below = text-none
 
   -- how many there are
-  pub below-length : (n : ℕ) → length (linesBelow r n) ≡ n
+  pub below-length : (k : ℕ) → length (linesBelow order r k) ≡ k
   unfolding linesBelow
   below-length zero = refl
-  below-length (suc n) = length-append (linesBelow r n) (line n ∷ []) ∙ omega (arith, below-length n)
+  below-length (suc k) = length-append (linesBelow order r k) (line k ∷ []) ∙ omega (arith, below-length k)
 
-  pub below-bytes : (n : ℕ) → length (listBytes (linesBelow r n)) ≡ 8 * n
-  below-bytes n = text-length (linesBelow r n) ∙ ap (λ (k : ℕ). 8 * k) (below-length n)
+  pub below-bytes : (k : ℕ) → length (listBytes (linesBelow order r k)) ≡ 8 * k
+  below-bytes k = text-length (linesBelow order r k) ∙ ap (λ (n : ℕ). 8 * n) (below-length k)
 
 -- ---- where they end
 
@@ -108,26 +110,29 @@ pub ends-last : (n : ℕ) → 32 ≤ n → lineCount n ≡ 32
 ends-last n l = rw (lt-ltb 32 (suc n) (omega arith))
 
 -- at the first mailbox that matched, or at the last
-module _ (r : ℕ → Reason) where
-  pub matched-ends : (n : ℕ) → n < 32 → isMatched (r n) ≡ true → ((j : ℕ) → j < n → isMatched (r j) ≡ false) → lines r ≡ linesBelow r (n + 1)
-  unfolding lines
-  matched-ends n l h before =
-      let e = first-by (λ k. isMatched (r k)) 32 n (record { most = omega arith; holds = λ m. h; none = before }) in
-      ap (linesBelow r) (ap lineCount e ∙ ends-at n l)
+module _ (order : ℕ → ℕ) (r : ℕ → Reason) where
+  abbrev pub matchedAt : ℕ → Bool
+  matchedAt k = isMatched (r (order k))
 
-  pub none-ends : ((j : ℕ) → j < 32 → isMatched (r j) ≡ false) → lines r ≡ linesBelow r 32
+  pub matched-ends : (k : ℕ) → k < 32 → matchedAt k ≡ true → ((j : ℕ) → j < k → matchedAt j ≡ false) → lines order r ≡ linesBelow order r (k + 1)
+  unfolding lines
+  matched-ends k l h before =
+      let e = first-by matchedAt 32 k (record { most = omega arith; holds = λ m. h; none = before }) in
+      ap (linesBelow order r) (ap lineCount e ∙ ends-at k l)
+
+  pub none-ends : ((j : ℕ) → j < 32 → matchedAt j ≡ false) → lines order r ≡ linesBelow order r 32
   unfolding lines
   none-ends before =
-      let e = first-by (λ k. isMatched (r k)) 32 32 (record { most = omega arith; holds = λ m. absurd (omega arith); none = before }) in
-      ap (linesBelow r) (ap lineCount e ∙ ends-last 32 (omega arith))
+      let e = first-by matchedAt 32 32 (record { most = omega arith; holds = λ m. absurd (omega arith); none = before }) in
+      ap (linesBelow order r) (ap lineCount e ∙ ends-last 32 (omega arith))
 
   -- 32 lines at most
-  pub lines-most : length (lines r) ≤ 32
+  pub lines-most : length (lines order r) ≤ 32
   unfolding lines
-  lines-most = omega (arith, below-length r (lineCount stop), at (ltb stop 32) refl)
+  lines-most = omega (arith, below-length order r (lineCount stop), at (ltb stop 32) refl)
     where
       stop : ℕ
-      stop = firstBelow (λ k. isMatched (r k)) 32
+      stop = firstBelow matchedAt 32
 
       at : (t : Bool) → ltb stop 32 ≡ t → lineCount stop ≤ 32
       at true q = let l = ltb-true stop 32 q in omega (arith, ends-at stop l)
@@ -135,7 +140,7 @@ module _ (r : ℕ → Reason) where
 
 -- the lines of a frame, by whether it is heard
 module _ (s : List ℕ) (f : Frame) where
-  pub heard-lines : onBus (blockOf s) ≡ true → explainedBy s f ≡ lines (reasonBy s f)
+  pub heard-lines : onBus (blockOf s) ≡ true → explainedBy s f ≡ lines (seat (blockOf s)) (reasonBy s f)
   heard-lines h = rw h
 
   pub unheard-lines : onBus (blockOf s) ≡ false → explainedBy s f ≡ unheard (blockOf s .mode) (busOff (blockOf s))
@@ -145,7 +150,7 @@ module _ (s : List ℕ) (f : Frame) where
   explained-most = at (onBus (blockOf s)) refl
     where
       at : (t : Bool) → onBus (blockOf s) ≡ t → length (explainedBy s f) ≤ 32
-      at true h = omega (arith, ap length (heard-lines h), lines-most (reasonBy s f))
+      at true h = omega (arith, ap length (heard-lines h), lines-most (seat (blockOf s)) (reasonBy s f))
       at false h = omega (arith, ap length (unheard-lines h))
 
 -- ---- what is told
@@ -164,35 +169,41 @@ told-either n why [] ms h = inr h
 told-either n why (l ∷ ls) ms (inl p) = inl (inl p)
 told-either n why (l ∷ ls) ms (inr h) = ⊎-elim (λ g. inl (inr g)) (λ g. inr g) (told-either n why ls ms h)
 
-module _ (r : ℕ → Reason) (n : ℕ) (why : Reason) where
-  -- a line below k is that of a mailbox below k, with its reason
-  pub is-below : (k : ℕ) → IsTold n why (linesBelow r k) → (n < k) × (r n ≡ why)
+module _ (order : ℕ → ℕ) (r : ℕ → Reason) (n : ℕ) (why : Reason) where
+  -- a line before place k is that of the mailbox at such a place, with its reason
+  pub is-below : (k : ℕ) → IsTold n why (linesBelow order r k) → (j : ℕ) × (j < k) × (order j ≡ n) × (r n ≡ why)
   unfolding linesBelow
   is-below zero h = absurd h
   is-below (suc k) h =
-      ⊎-elim (λ g. let p = is-below k g in let l = p .0 in (omega arith, p .1))
-      (λ g. ⊎-elim (λ p. let e : k ≡ n = p .0 in (omega arith, ap r (sym e) ∙ p .1)) (λ z. absurd z) g)
-      (told-either n why (linesBelow r k) (record { mailbox = k; reason = r k } ∷ []) h)
+      ⊎-elim (λ g. let p = is-below k g in let l = p .1 in (p .0, omega arith, p .2, p .3))
+      (λ g. ⊎-elim (λ p. (k, omega arith, p .0, ap r (sym (p .0)) ∙ p .1)) (λ z. absurd z) g)
+      (told-either n why (linesBelow order r k) (record { mailbox = order k; reason = r (order k) } ∷ []) h)
 
-  pub below-is : (k : ℕ) → n < k → r n ≡ why → IsTold n why (linesBelow r k)
+  pub below-is : (k j : ℕ) → j < k → order j ≡ n → r n ≡ why → IsTold n why (linesBelow order r k)
   unfolding linesBelow
-  below-is zero l e = absurd (omega arith)
-  below-is (suc k) l e = at (ℕ-discrete n k) (λ m. below-is k m e)
+  below-is zero j l o e = absurd (omega arith)
+  below-is (suc k) j l o e = at (ℕ-discrete j k) (λ m. below-is k j m o e)
     where
-      at : Dec (n ≡ k) → (n < k → IsTold n why (linesBelow r k)) → IsTold n why (linesBelow r k ++ (record { mailbox = k; reason = r k } ∷ []))
-      at (yes q) go = told-right n why (linesBelow r k) (record { mailbox = k; reason = r k } ∷ []) (inl (sym q, ap r (sym q) ∙ e))
-      at (no d) go = told-left n why (linesBelow r k) (record { mailbox = k; reason = r k } ∷ []) (go (omega arith))
+      at : Dec (j ≡ k) → (j < k → IsTold n why (linesBelow order r k)) → IsTold n why (linesBelow order r k ++ (record { mailbox = order k; reason = r (order k) } ∷ []))
+      at (yes q) go =
+          let m = ap order (sym q) ∙ o in
+          told-right n why (linesBelow order r k) (record { mailbox = order k; reason = r (order k) } ∷ []) (inl (m, ap r m ∙ e))
+      at (no d) go = told-left n why (linesBelow order r k) (record { mailbox = order k; reason = r (order k) } ∷ []) (go (omega arith))
 
 -- ---- their order
 
-numbered-more : (k : ℕ) (ls : List Line) (l : Line) → Numbered k ls → l .mailbox ≡ k + length ls → Numbered k (ls ++ (l ∷ []))
-numbered-more k [] l p e = (omega (arith, e), tt)
-numbered-more k (m ∷ ls) l p e = (p .0, numbered-more (k + 1) ls l (p .1) (omega (arith, e)))
+order-more : (w : Words) (k : ℕ) (ls : List Line) (l : Line) → InOrder w k ls → l .mailbox ≡ ordered w (k + length ls) → InOrder w k (ls ++ (l ∷ []))
+order-more w k [] l p e = (e ∙ ap (ordered w) (add-zero k), tt)
+order-more w k (m ∷ ls) l p e =
+    let q : k + length (m ∷ ls) ≡ k + 1 + length ls = omega arith in
+    (p .0, order-more w (k + 1) ls l (p .1) (e ∙ ap (ordered w) q))
 
-pub numbered-below : (r : ℕ → Reason) (n : ℕ) → Numbered 0 (linesBelow r n)
+pub order-below : (w : Words) (r : ℕ → Reason) (k : ℕ) → InOrder w 0 (linesBelow (ordered w) r k)
 unfolding linesBelow
-numbered-below r zero = tt
-numbered-below r (suc n) = numbered-more 0 (linesBelow r n) (record { mailbox = n; reason = r n }) (numbered-below r n) (omega (arith, below-length r n))
+order-below w r zero = tt
+order-below w r (suc k) =
+    let q : k ≡ 0 + length (linesBelow (ordered w) r k) = omega (arith, below-length (ordered w) r k) in
+    order-more w 0 (linesBelow (ordered w) r k) (record { mailbox = ordered w k; reason = r (ordered w k) }) (order-below w r k) (ap (ordered w) q)
 
 -- ---- the lines of compared mailboxes
 
@@ -201,8 +212,8 @@ unfolding comparisons
 comparisons-both [] ms = omega arith
 comparisons-both (l ∷ ls) ms = omega (arith, comparisons-both ls ms)
 
-pub comparisons-below : (r : ℕ → Reason) (n : ℕ) → comparisons (linesBelow r n) ≡ countBelow (λ k. wasCompared (r k)) n
+pub comparisons-below : (order : ℕ → ℕ) (r : ℕ → Reason) (k : ℕ) → comparisons (linesBelow order r k) ≡ countBelow (λ j. wasCompared (r (order j))) k
 unfolding linesBelow comparisons countBelow
-comparisons-below r zero = refl
-comparisons-below r (suc n) =
-    comparisons-both (linesBelow r n) (record { mailbox = n; reason = r n } ∷ []) ∙ omega (arith, comparisons-below r n)
+comparisons-below order r zero = refl
+comparisons-below order r (suc k) =
+    comparisons-both (linesBelow order r k) (record { mailbox = order k; reason = r (order k) } ∷ []) ∙ omega (arith, comparisons-below order r k)

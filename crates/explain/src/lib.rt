@@ -8,7 +8,8 @@ ghost use Rattle.registers.specs.Block.{imageBytes, blockOf};
 ghost use Rattle.registers.specs.Status.{busOff};
 ghost use Rattle.texts.specs.Text.{Put};
 ghost use Rattle.answers.specs.Answer.{Fitted};
-ghost use Rattle.explain.specs.Explain.{number as numberOf, bitNumber as bitNumberOf, comparedReason, lines, unheard, lineBytes, listBytes, ExplainCall};
+ghost use Rattle.filter.specs.Filter.{seat as seatOf, maskFor, guarded};
+ghost use Rattle.explain.specs.Explain.{number as numberOf, bitNumber as bitNumberOf, matchReason, comparedReason, lines, unheard, lineBytes, listBytes, ExplainCall};
 ghost use Rattle.explain.specs.Terms.{reasonBy, explainedBy};
 use events::Frame;
 use registers::Block;
@@ -21,6 +22,7 @@ pub enum Reason {
     BitDiffers { bit: u8 },
     Matched,
     NotHeard { state: u8 },
+    Protected,
 }
 
 // What is said of a mailbox; 32 where the frame is not heard.
@@ -39,6 +41,7 @@ fn number(why: Reason) -> u8
         Reason::BitDiffers { bit } => 4,
         Reason::Matched => 5,
         Reason::NotHeard { state } => 6,
+        Reason::Protected => 7,
     }
 }
 
@@ -53,16 +56,54 @@ fn bit_number(why: Reason) -> u8
         Reason::BitDiffers { bit } => bit,
         Reason::Matched => 0,
         Reason::NotHeard { state } => state,
+        Reason::Protected => 0,
     }
 }
 
+// The mailbox at place k of the search.
+fn seat(b: Block, k: u32) -> u32
+    requires { ⌜ k < 32 ⌝ }
+    ensures { λ r. ⌜ r ≡ seatOf b k ⌝ }
+{
+    bits::choose(b.is_ecan(), 31 - k, k)
+}
+
+// The mask of mailbox n.
+fn mask_of(s: &[u8], b: Block, n: u32) -> u32
+    requires { ⌜ (length (now s) ≡ imageBytes) × (n < 32) ⌝ }
+    ensures { λ r. ⌜ r ≡ maskFor (now (s .entry)) b n ⌝ }
+{
+    if b.is_ecan() {
+        return words::word_at(s, registers::MASKS_AT + 4 * (n as usize));
+    }
+    bits::choose(n == 31, b.lam, b.gam)
+}
+
+// Does mailbox n pass a matching frame over?
+fn is_guarded(b: Block, n: u32) -> bool
+    requires { ⌜ n < 32 ⌝ }
+    ensures { λ r. ⌜ r ≡ bit (guarded b) n ⌝ }
+{
+    bits::test(bits::choose(b.is_ecan(), b.protection & b.rmp & b.md, 0), n)
+}
+
+// The reason of a mailbox that matches.
+fn matched(passes: bool) -> Reason
+    ensures { λ r. ⌜ r ≡ matchReason passes ⌝ }
+{
+    if passes {
+        return Reason::Protected;
+    }
+    Reason::Matched
+}
+
 // The reason of a mailbox that is compared, and differs from the frame in these bits, or in none.
-fn judge(differing: u32) -> Reason
+fn judge(differing: u32, passes: bool) -> Reason
     requires { ⌜ (bit differing 30 ≡ false) × (bit differing 29 ≡ false) ⌝ }
-    ensures { λ r. ⌜ r ≡ comparedReason (bit differing) ⌝ }
+    ensures { λ r. ⌜ r ≡ comparedReason passes (bit differing) ⌝ }
 {
     if differing == 0 {
-        return Reason::Matched;
+        return matched(passes);
     }
     if bits::test(differing, 31) {
         return Reason::IdeDiffers;
@@ -83,8 +124,8 @@ fn reason_at(s: &[u8], b: Block, f: Frame, n: u32) -> Reason
     if !(f.rtr | bits::test(b.md, n)) {
         return Reason::Transmits;
     }
-    let mask = bits::choose(n == 31, b.lam, b.gam);
-    judge(filter::differing(mask, f, mailboxes::word(s, n as usize, 0)))
+    let differing = filter::differing(mask_of(s, b, n), f, mailboxes::word(s, n as usize, 0));
+    judge(differing, is_guarded(b, n))
 }
 
 // Two words: mailbox, reason and bit number in three bytes of the first, and zeros.
@@ -98,14 +139,15 @@ fn put_line(list: &mut [u8], at: usize, l: Line) -> usize
     texts::put_word(list, rest, 0)
 }
 
-// The lines of a heard frame, at the front of bytes that have room for any: up to the first mailbox that matched.
+// The lines of a heard frame, place by place, at the front of bytes that have room for any: up to the first mailbox that matched.
 fn put_lines(s: &[u8], b: Block, f: Frame, list: &mut [u8]) -> usize
     requires { ⌜ (length (now s) ≡ imageBytes) × (b ≡ blockOf (now s)) × (f .id .0 < 536870912) × (256 ≤ length (now list)) ⌝ }
-    ensures { λ r. ⌜ Put (now (list .entry)) 0 (listBytes (lines (reasonBy (now (s .entry)) f))) (now (list .exit)) r ⌝ }
+    ensures { λ r. ⌜ Put (now (list .entry)) 0 (listBytes (lines (seatOf (blockOf (now (s .entry)))) (reasonBy (now (s .entry)) f))) (now (list .exit)) r ⌝ }
 {
     let mut at: usize = 0;
-    let mut n: u32 = 0;
-    while n < 32 {
+    let mut k: u32 = 0;
+    while k < 32 {
+        let n = seat(b, k);
         let reason = reason_at(s, b, f, n);
         at = put_line(
             list,
@@ -118,7 +160,7 @@ fn put_lines(s: &[u8], b: Block, f: Frame, list: &mut [u8]) -> usize
         if number(reason) == 5 {
             return at;
         }
-        n += 1;
+        k += 1;
     }
     at
 }

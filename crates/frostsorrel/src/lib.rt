@@ -2,12 +2,12 @@
 ghost use Rattle.rules.specs.Calls.{FreshCall, StepCall, ReadCall, CompareCall};
 ghost use Rattle.explain.specs.Explain.{ExplainCall};
 
-// uint64_t frostsorrel_fresh(uint8_t *image, size_t image_len)
+// uint64_t frostsorrel_fresh(uint8_t *image, size_t image_len, uint32_t profile)
 #[no_mangle]
-pub extern "C" fn frostsorrel_fresh(image: &mut [u8]) -> u64
-    ensures { λ r. ⌜ FreshCall (now (image .entry)) (now (image .exit)) r ⌝ }
+pub extern "C" fn frostsorrel_fresh(image: &mut [u8], profile: u32) -> u64
+    ensures { λ r. ⌜ FreshCall (now (image .entry)) profile (now (image .exit)) r ⌝ }
 {
-    fresh::fresh(image)
+    fresh::fresh(image, profile)
 }
 
 // uint64_t frostsorrel_step(uint8_t *image, size_t image_len, const uint8_t *event, size_t event_len)

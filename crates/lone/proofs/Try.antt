@@ -17,7 +17,7 @@ use Rattle.words.proofs.Bytes.{bytes-nil, bytes-cons}
 use Rattle.answers.specs.Answer.{Outcome}
 use Rattle.events.specs.Parts.{plainEvent}
 use Rattle.model.specs.Step.{step}
-use Rattle.rules.specs.Words.{Words, _has_, words, atMost, Only, MC, TRS, TRR, CDR, TEC, REC, MODE, WAITING, SLOT}
+use Rattle.rules.specs.Words.{Words, _has_, words, atMost, Only, MC, TRS, TRR, CDR, TEC, REC, MODE, WAITING, SLOT, emptySlot}
 use Rattle.rules.specs.Image.{Good}
 use Rattle.rules.specs.Events.{Applies, not-good, is-unknown, is-asleep, not-allowed, is-busy, is-locked, slot-empty}
 use Rattle.rules.specs.Sending.{candidate, Unsent, unacknowledgedTec, Ending}
@@ -84,14 +84,9 @@ module _ (s : List ℕ) (n : ℕ) (r : Ready s n) (room : words s TEC < 256) whe
       let end = nothing-waits (p .middle) (words begun) (p .ending) (q .rest WAITING refl ∙ none-waiting) in
       (step s start .mailbox, c .0, c .1, end SLOT refl ∙ q .slot ∙ rw (lt-ltb (step s start .mailbox) 32 (c .0)), λ k h. end k refl ∙ q .rest k h)
 
-  -- a request of mailbox 31 is none
-  named-sends : (m : ℕ) → candidate (words s) m ≡ true → m ≢ 31
-  named-sends m c e =
-      false≢true (sym (r .good .registers .bit-31 TRS refl) ∙ ap (λ (j : ℕ). words s TRS has j) (sym e) ∙ parts (words s) m c .0)
-
 -- ---- the outcome
 
-module _ (s : List ℕ) (bytes : Bytes s) (good : Good s) (filled : words s SLOT ≢ 31) (calm : words s WAITING ≡ 4) (k : ℕ) (known : k ≤ 3) where
+module _ (s : List ℕ) (bytes : Bytes s) (good : Good s) (filled : words s SLOT ≢ emptySlot) (calm : words s WAITING ≡ 4) (k : ℕ) (known : k ≤ 3) where
   abbrev outcome : List ℕ
   outcome = plainEvent 4 k 0
 
@@ -103,7 +98,7 @@ module _ (s : List ℕ) (bytes : Bytes s) (good : Good s) (filled : words s SLOT
   outcome-free r (not-allowed e d) = false≢true d
   outcome-free r (is-busy e d) = false≢true d
   outcome-free r (is-locked e d) = false≢true d
-  outcome-free r (slot-empty e d) = false≢true (sym (ne-eqb (words s SLOT) 31 filled) ∙ d)
+  outcome-free r (slot-empty e d) = false≢true (sym (ne-eqb (words s SLOT) emptySlot filled) ∙ d)
 
   -- what it does by the rules, it leaves
   fails : (t : ℕ) → ((now : Words) (o : Outcome) → Does s outcome (words s) now o → Unsent t (words s) now)
@@ -144,7 +139,7 @@ module _ (s : List ℕ) (n : ℕ) (r : Ready s n) (room : words s TEC < 256) whe
       let y = plain-bytes 3 0 (lit< tt) (lit< tt) in
       let bytes = step-bytes s _ (r .bytes) y in
       let good = good-step s _ (r .bytes) y (r .good) in
-      let sends : words (first s) SLOT ≢ 31 = λ e. named-sends s n r room (b .0) (b .2) (sym (b .3) ∙ e) in
+      let sends : words (first s) SLOT ≢ emptySlot = λ e. omega (arith, b .1, b .3) in
       let u = fails (first s) bytes good sends (same WAITING refl ∙ none-waiting s n r room) k known _ (by (first s)) in
       let z = plain-bytes 4 k (lit< tt) (omega arith) in
       let c : candidate (words (first s)) n ≡ true = rw (same TRS refl, same MC refl, same CDR refl, same TRR refl) (r .asks .1) in (

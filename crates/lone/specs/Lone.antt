@@ -8,7 +8,7 @@ use Rattle.words.specs.Bytes.{Bytes}
 use Rattle.events.specs.Parts.{plainEvent}
 use Rattle.model.specs.Step.{step}
 use Rattle.books.specs.Happen.{run}
-use Rattle.rules.specs.Words.{words, _is_, atMost, TEC, REC, MODE, WAITING, SLOT}
+use Rattle.rules.specs.Words.{words, _is_, atMost, TEC, REC, MODE, WAITING, SLOT, emptySlot}
 use Rattle.rules.specs.Image.{Good, busOff, passive}
 use Rattle.rules.specs.Events.{operation, target, Applies}
 use Rattle.rules.specs.Sending.{candidate}
@@ -31,7 +31,7 @@ pub record Ready (s : List ℕ) (n : ℕ) : Type 0 where
   pub bytes : Bytes s
   pub good : Good s
   pub normal : words s MODE ≡ 0
-  pub vacant : words s SLOT ≡ 31
+  pub vacant : words s SLOT ≡ emptySlot
   pub asks : (n < 32) × (candidate (words s) n ≡ true)
 
 -- Outcome 3, where it is accepted: TEC stays if the unit was passive before it, and rises by 8 if it was not; a sleep that waits is taken at

@@ -2,25 +2,44 @@
 use Prim.Native.Nat.{ℕ, zero, suc, _+_, _*_, _/_, _%_, _<_, _≤_}
 use mathlib.Core.Path.{_≡_, refl, sym, _∙_, ap, subst}
 use mathlib.Core.Bool.{Bool, true, false, cond, false≢true}
-use mathlib.Core.List.{List, [], _∷_}
+use mathlib.Core.List.{List, [], _∷_, _++_}
+use mathlib.Core.Logic.{_≢_}
+use native.Mathlib.Decide.{decLt, ℕ-discrete}
 use native.Mathlib.Omega.{arith}
-use lib.Dec.{eqb}
-use lib.ListN.{getD, length, drop, List·getD-eq-default}
+use lib.Dec.{eqb, ltb}
+use lib.ListN.{getD, length, drop, List·getD-append}
 use lib.Seq.{ext-getD}
-use borrow.Author.Tests.{eqb-true}
-use Rattle.bits.proofs.Tests.{All as Hold, all}
-use Rattle.words.specs.Word.{wordAt, wordsOf}
-use Rattle.words.proofs.Rows.{word-of}
+use borrow.Author.Tests.{eqb-true, ltb-true, ltb-false, lt-ltb, le-ltb, ne-eqb}
+use Rattle.words.specs.Word.{wordsOf}
+use Rattle.words.proofs.Rows.{length-words, word-of}
 use Rattle.words.proofs.Bytes.{Bytes}
 use Rattle.registers.specs.declared.Block.{Block}
-use Rattle.registers.specs.Block.{blockOf, toWords}
+use Rattle.registers.specs.Block.{blockOf, putBlock, lastWords, toWords}
+use Rattle.registers.proofs.Laws.{Small, spare-stays, past-stays, block-back}
 use Rattle.mailboxes.proofs.Spliced.{byteOf, word-byte, from}
-use Rattle.good.specs.Good.{goodSpare, spareWords}
-use Rattle.good.proofs.Image.{GoodImage}
-use Rattle.rules.specs.Words.{Words, words, byte, among, Only}
+use Rattle.rules.specs.Words.{Words, words, byte, among, Only, PROTECTION, PROFILE}
 
-abbrev pub ofBlock : Block → Words
-ofBlock b k = getD (toWords b) k 0
+-- the words of an image, by its block and by the words that are not of the block
+abbrev pub ofBlock : Words → Block → Words
+ofBlock m b k = cond (ltb k 28) (getD (toWords b) k 0) (cond (eqb k PROTECTION) (b .protection) (cond (eqb k PROFILE) (b .profile) (m k)))
+
+-- a statement of a word, by where it stands
+pub word-cases : (P : ℕ → Type 0) → ((k : ℕ) → k < 28 → P k) → P PROTECTION → P PROFILE
+    → ((k : ℕ) → 28 ≤ k → k ≢ PROTECTION → k ≢ PROFILE → P k) → (k : ℕ) → P k
+word-cases P low guard kind other k = at (ltb k 28) refl (ℕ-discrete k PROTECTION) (ℕ-discrete k PROFILE)
+  where
+    at : (t : Bool) → ltb k 28 ≡ t → Dec (k ≡ PROTECTION) → Dec (k ≡ PROFILE) → P k
+    at true p d e = low k (ltb-true k 28 p)
+    at false p (yes q) e = subst P (sym q) guard
+    at false p (no d) (yes q) = subst P (sym q) kind
+    at false p (no d) (no e) = other k (ltb-false k 28 p) d e
+
+module _ (m : Words) (b : Block) where
+  pub of-low : (k : ℕ) → k < 28 → ofBlock m b k ≡ getD (toWords b) k 0
+  of-low k h = rw (lt-ltb k 28 h)
+
+  pub of-other : (k : ℕ) → 28 ≤ k → k ≢ PROTECTION → k ≢ PROFILE → ofBlock m b k ≡ m k
+  of-other k h p q = rw (le-ltb k 28 h, ne-eqb k PROTECTION p, ne-eqb k PROFILE q)
 
 -- ---- words that stay
 
@@ -34,57 +53,80 @@ old-word p new [] k e = refl
 old-word p new (a ∷ old) zero e = rw e
 old-word p new (a ∷ old) (suc k) e = old-word (λ n. p (suc n)) (drop 1 new) old k e
 
+-- which word of the image word j of the block is
+abbrev pub numberOf : ℕ → ℕ
+numberOf j = cond (ltb j 28) j (j + 36)
+
 -- the new words are the old ones but for those listed
-pub only : (l : List ℕ) (y x : Block) → toWords x ≡ patched (λ k. among k l) (toWords x) (toWords y) → Only l (ofBlock y) (ofBlock x)
-only l y x e k h = ap (λ (w : List ℕ). getD w k 0) e ∙ old-word (λ k. among k l) (toWords x) (toWords y) k h
+pub only : (l : List ℕ) (m : Words) (y x : Block) → toWords x ≡ patched (λ j. among (numberOf j) l) (toWords x) (toWords y)
+    → Only l (ofBlock m y) (ofBlock m x)
+only l m y x e = word-cases (λ k. among k l ≡ false → ofBlock m x k ≡ ofBlock m y k) low (old 28) (old 29) other
+  where
+    old : (j : ℕ) → among (numberOf j) l ≡ false → getD (toWords x) j 0 ≡ getD (toWords y) j 0
+    old j h = ap (λ (w : List ℕ). getD w j 0) e ∙ old-word (λ j. among (numberOf j) l) (toWords x) (toWords y) j h
 
-pub still : (l : List ℕ) (y x : Block) → x ≡ y → Only l (ofBlock y) (ofBlock x)
-still l y x e k h = ap (λ (b : Block). getD (toWords b) k 0) e
+    low : (k : ℕ) → k < 28 → among k l ≡ false → ofBlock m x k ≡ ofBlock m y k
+    low k h n = of-low m x k h ∙ old k (rw (lt-ltb k 28 h) n) ∙ sym (of-low m y k h)
 
--- ---- the words of a good image are those of its block
+    other : (k : ℕ) → 28 ≤ k → k ≢ PROTECTION → k ≢ PROFILE → among k l ≡ false → ofBlock m x k ≡ ofBlock m y k
+    other k h p q n = of-other m x k h p q ∙ sym (of-other m y k h p q)
 
-module _ (s : List ℕ) (g : GoodImage s) where
-  row : toWords (blockOf s) ≡ wordsOf s 512 28
+pub still : (l : List ℕ) (m : Words) (y x : Block) → x ≡ y → Only l (ofBlock m y) (ofBlock m x)
+still l m y x e k h = ap (λ (b : Block). ofBlock m b k) e
+
+-- ---- the words of an image by its own block, and by a block that was put
+
+module _ (s : List ℕ) where
+  row : toWords (blockOf s) ≡ wordsOf s 512 28 ++ lastWords (blockOf s)
   unfolding blockOf wordsOf
   row = refl
 
-  low : (k : ℕ) → k < 28 → words s k ≡ ofBlock (blockOf s) k
-  low k h = sym (word-of s 512 28 k h) ∙ ap (λ (l : List ℕ). getD l k 0) (sym row)
+  low-word : (k : ℕ) → k < 28 → words s k ≡ getD (toWords (blockOf s)) k 0
+  low-word k h =
+      let l = length-words s 512 28 in
+      sym (word-of s 512 28 k h)
+      ∙ sym (List·getD-append (wordsOf s 512 28) (lastWords (blockOf s)) 0 k (omega arith))
+      ∙ ap (λ (l : List ℕ). getD l k 0) (sym row)
 
-  past : (k : ℕ) → words s (32 + k) ≡ 0
-  unfolding wordAt
-  past k =
-      let n = g .size in
-      let z : (i : ℕ) → 640 ≤ i → _≡_ {A = ℕ} (getD s i 0) 0 = λ i h. List·getD-eq-default s 0 (omega arith) in
-      rw (z (512 + 4 * (32 + k)) (omega arith), z (512 + 4 * (32 + k) + 1) (omega arith), z (512 + 4 * (32 + k) + 2) (omega arith), z (512 + 4 * (32 + k) + 3) (omega arith))
-
-  spare : (k : ℕ) → words s (28 + k) ≡ 0
-  unfolding goodSpare
-  spare = at (all (spareWords s) (g .spare))
-    where
-      at : Hold (spareWords s) → (k : ℕ) → words s (28 + k) ≡ 0
-      at p zero = eqb-true _ _ (p .0)
-      at p (suc zero) = eqb-true _ _ (p .1 .0)
-      at p (suc (suc zero)) = eqb-true _ _ (p .1 .1 .0)
-      at p (suc (suc (suc zero))) = eqb-true _ _ (p .1 .1 .1 .0)
-      at p (suc (suc (suc (suc k)))) = ap (words s) (omega arith) ∙ past k
-
-  pub of-block : words s ≡ ofBlock (blockOf s)
+  pub of-block : words s ≡ ofBlock (words s) (blockOf s)
+  unfolding blockOf
   of-block =
-      let same : (k : ℕ) → words s k ≡ ofBlock (blockOf s) k =
-      from (λ k. words s k ≡ ofBlock (blockOf s) k) 28 low
-      (λ k. spare k ∙ sym (List·getD-eq-default (toWords (blockOf s)) 0 {n = 28 + k} (omega arith))) in
+      let same : (k : ℕ) → words s k ≡ ofBlock (words s) (blockOf s) k =
+      word-cases (λ k. words s k ≡ ofBlock (words s) (blockOf s) k)
+      (λ k h. low-word k h ∙ sym (of-low (words s) (blockOf s) k h)) refl refl
+      (λ k h p q. sym (of-other (words s) (blockOf s) k h p q)) in
+      λ i k. same k i
+
+-- the words that are not of the block stay
+module _ (s : List ℕ) (b : Block) where
+  beside-stays : (k : ℕ) → 28 ≤ k → k ≢ PROTECTION → k ≢ PROFILE → words (putBlock s b) k ≡ words s k
+  beside-stays k h p q = at (decLt k 64)
+    where
+      at : Dec (k < 64) → words (putBlock s b) k ≡ words s k
+      at (yes l) = spare-stays s b k h l
+      at (no l) = past-stays s b (512 + 4 * k) (omega arith)
+
+  pub put-words : length s ≡ 776 → Small b → words (putBlock s b) ≡ ofBlock (words s) b
+  put-words h fit =
+      let x = putBlock s b in
+      let e = block-back s b h fit in
+      let same : (k : ℕ) → words x k ≡ ofBlock (words s) b k =
+      word-cases (λ k. words x k ≡ ofBlock (words s) b k)
+      (λ k l. ap (λ (w : Words). w k) (of-block x) ∙ of-low (words x) (blockOf x) k l ∙ ap (λ (c : Block). getD (toWords c) k 0) e ∙ sym (of-low (words s) b k l))
+      (ap (λ (w : Words). w PROTECTION) (of-block x) ∙ ap (λ (c : Block). c .protection) e)
+      (ap (λ (w : Words). w PROFILE) (of-block x) ∙ ap (λ (c : Block). c .profile) e)
+      (λ k l p q. beside-stays k l p q ∙ sym (of-other (words s) b k l p q)) in
       λ i k. same k i
 
 -- ---- an image by its mailbox bytes and its words
 
-pub image-by : (x y : List ℕ) → length x ≡ 640 → length y ≡ 640 → Bytes x → Bytes y
+pub image-by : (x y : List ℕ) → length x ≡ 776 → length y ≡ 776 → Bytes x → Bytes y
     → ((i : ℕ) → i < 512 → byte x i ≡ byte y i) → ((k : ℕ) → words x k ≡ words y k) → x ≡ y
 image-by x y lx ly bx by boxes regs =
     ext-getD 0 x y (lx ∙ sym ly)
-    (λ i h. from (λ i. i < 640 → byte x i ≡ byte y i) 512 (λ i l q. boxes i l) high i (omega arith))
+    (λ i h. from (λ i. i < 776 → byte x i ≡ byte y i) 512 (λ i l q. boxes i l) high i (omega arith))
   where
-    high : (i : ℕ) → 512 + i < 640 → byte x (512 + i) ≡ byte y (512 + i)
+    high : (i : ℕ) → 512 + i < 776 → byte x (512 + i) ≡ byte y (512 + i)
     high i q =
         let e : 512 + 4 * (i / 4) + i % 4 ≡ 512 + i = omega arith in
         let l : i % 4 < 4 = omega arith in

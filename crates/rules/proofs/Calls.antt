@@ -29,8 +29,8 @@ use Rattle.rules.proofs.Step.{step-meets, rules-one}
 call : (P : Outcome → Type 0) (o : Outcome) (x : List ℕ) (a : ℕ) → P o → Promise o x a → Call P x a
 call P o x a k p = record { outcome = o; keeps = k; image = p .image; packs = p .answered }
 
-pub fresh-call : (s x : List ℕ) (a : ℕ) → Promise (fresh s) x a → FreshCall s x a
-fresh-call s x a = call _ (fresh s) x a (fresh-meets s)
+pub fresh-call : (s x : List ℕ) (p a : ℕ) → Promise (fresh s p) x a → FreshCall s p x a
+fresh-call s x p a = call _ (fresh s p) x a (fresh-meets s p)
 
 pub step-call : (s e x : List ℕ) (a : ℕ) → Bytes s → Bytes e → Promise (step s e) x a → StepCall s e x a
 step-call s e x a b y = call _ (step s e) x a (step-meets s e b y)
@@ -60,8 +60,8 @@ one P h x y a b p q =
       p .packs ∙ ap (λ (o : Outcome). o .refusal + 256 * o .mailbox + 65536 * o .count) e ∙ sym (q .packs),
     )
 
-pub fresh-unique : (s x y : List ℕ) (a b : ℕ) → FreshCall s x a → FreshCall s y b → (x ≡ y) × (a ≡ b)
-fresh-unique s = one _ (fresh-one s)
+pub fresh-unique : (s : List ℕ) (p : ℕ) (x y : List ℕ) (a b : ℕ) → FreshCall s p x a → FreshCall s p y b → (x ≡ y) × (a ≡ b)
+fresh-unique s p = one _ (fresh-one s p)
 
 pub step-unique : (s e : List ℕ) → Bytes s → Bytes e → (x y : List ℕ) (a b : ℕ) → StepCall s e x a → StepCall s e y b → (x ≡ y) × (a ≡ b)
 step-unique s e h k = one _ (rules-one s e h k)

@@ -12,6 +12,7 @@ use Rattle.bits.proofs.Laws.{same-bits}
 use Rattle.words.specs.Word.{wordsOf}
 use Rattle.words.proofs.Bytes.{Bytes}
 use Rattle.registers.specs.Block.{blockOf}
+use Rattle.registers.specs.Status.{ecan}
 use Rattle.mailboxes.proofs.Spliced.{byteOf, word-byte}
 use Rattle.events.specs.Parts.{frameOf}
 use Rattle.events.specs.Decode.{lastOutcome, event, eventAs}
@@ -24,7 +25,7 @@ use Rattle.sending.specs.Choice.{next}
 use Rattle.sending.proofs.Choice.{next-is, next-most}
 use Rattle.answers.specs.Answer.{Outcome as Result}
 use Rattle.model.proofs.Kept.{Taken as TakenEvent, taken}
-use Rattle.rules.specs.Words.{Words, _has_, _is_, words, byte, box, BoxesStayBut, TRS, RMP, RML, RFP, MBRIF, GIF, REC, MODE, SLOT, OPTIONS}
+use Rattle.rules.specs.Words.{Words, _has_, _is_, words, byte, box, BoxesStayBut, TRS, RMP, RML, RFP, MBRIF, GIF, REC, MODE, SLOT, OPTIONS, PROFILE}
 use Rattle.rules.specs.Image.{onBus}
 use Rattle.rules.specs.Events.{operation, target, word, value, carried}
 use Rattle.rules.specs.Writing.{BoxWrite}
@@ -129,7 +130,7 @@ pub record Both (a b : Words) (o u : Result) : Type 0 where
 
 module _ (s e : List ℕ) (a b : Words) (o u : Result) (bo : Bytes (o .image)) (bu : Bytes (u .image)) where
   abbrev was : Words
-  was = ofBlock (blockOf s)
+  was = ofBlock (words s) (blockOf s)
 
   frame-one : Frame s e was a o → Frame s e was b u → Both a b o u
   unfolding blockOf wordsOf
@@ -169,8 +170,8 @@ module _ (s e : List ℕ) (a b : Words) (o u : Result) (bo : Bytes (o .image)) (
             same-count = x .0 .1 ∙ sym (y .0 .1);
           }
       at (way-stored n c h k r d) =
-          let x = p .heard h .stored n (first s e n c k) r in
-          let y = q .heard h .stored n (first s e n c k) r in
+          let x = p .heard h .stored (k .place) n (first s e n c k) r in
+          let y = q .heard h .stored (k .place) n (first s e n c k) r in
           record {
             same-words =
                 by-only was a b (RML ∷ RMP ∷ MBRIF ∷ RFP ∷ GIF ∷ REC ∷ []) (x .1 .rest) (y .1 .rest)
@@ -180,8 +181,8 @@ module _ (s e : List ℕ) (a b : Words) (o u : Result) (bo : Bytes (o .image)) (
             same-count = x .0 .1 ∙ sym (y .0 .1);
           }
       at (way-replied n c h k r v d) =
-          let x = p .heard h .replied n (first s e n c k) r v in
-          let y = q .heard h .replied n (first s e n c k) r v in
+          let x = p .heard h .replied (k .place) n (first s e n c k) r v in
+          let y = q .heard h .replied (k .place) n (first s e n c k) r v in
           record {
             same-words = by-only was a b (TRS ∷ REC ∷ []) (x .3) (y .3) (flags was a b TRS _ (x .2) (y .2), (recs h, tt));
             same-boxes = kept s (o .image) (u .image) bo bu (x .1) (y .1);
@@ -189,8 +190,8 @@ module _ (s e : List ℕ) (a b : Words) (o u : Result) (bo : Bytes (o .image)) (
             same-count = x .0 .1 ∙ sym (y .0 .1);
           }
       at (way-ignored n c h k r v d) =
-          let x = p .heard h .ignored n (first s e n c k) r v in
-          let y = q .heard h .ignored n (first s e n c k) r v in
+          let x = p .heard h .ignored (k .place) n (first s e n c k) r v in
+          let y = q .heard h .ignored (k .place) n (first s e n c k) r v in
           record {
             same-words = by-only was a b (REC ∷ []) (x .2) (y .2) (recs h, tt);
             same-boxes = kept s (o .image) (u .image) bo bu (x .1) (y .1);
@@ -225,17 +226,17 @@ module _ (s e : List ℕ) (a b : Words) (o u : Result) (bo : Bytes (o .image)) (
         named : Start s was a (o .mailbox) → Start s was b (u .mailbox) → (z : Bool) → onBus was ≡ z → Dec (next s < 32) → o .mailbox ≡ u .mailbox
         named x y false z d = x .off z ∙ sym (y .off z)
         named x y true z (yes l) =
-            both s was a b (o .mailbox) (u .mailbox) x y z (next s) l (sym (candidate-same s (next s)) ∙ next-is s z .named l)
+            both s was a b (o .mailbox) (u .mailbox) x y z (next s) l (sym (candidate-same s (words s) (next s)) ∙ next-is s z .named l)
         named x y true z (no l) =
             let none : (n : ℕ) → n < 32 → candidate was n ≡ false =
-            λ n k. sym (candidate-same s n) ∙ next-is s z .nobody (omega (arith, next-most s)) n k in
+            λ n k. sym (candidate-same s (words s) n) ∙ next-is s z .nobody (omega (arith, next-most s)) n k in
             x .none none ∙ sym (y .none none)
 
     outcome-both : operation e ≡ 4 → Both a b o u
     outcome-both h = at (target e) refl
       where
         most : target e ≤ lastOutcome
-        most = subst Allowed (ap (λ (n : ℕ). eventAs n e) h) (t .fair)
+        most = subst (Allowed (ecan (blockOf s))) (ap (λ (n : ℕ). eventAs n e) h) (t .fair)
 
         unsent-both : (tec : ℕ) → Fails tec s was a o → Fails tec s was b u → Both a b o u
         unsent-both tec x y =
@@ -275,13 +276,13 @@ module _ (s e : List ℕ) (a b : Words) (o u : Result) (bo : Bytes (o .image)) (
     all-operations : Both a b o u
     all-operations = at (operation e) refl
       where
-        fair : (k : ℕ) → operation e ≡ k → Allowed (eventAs k e)
-        fair k h = subst Allowed (ap (λ (n : ℕ). eventAs n e) h) (t .fair)
+        fair : (k : ℕ) → operation e ≡ k → Allowed (ecan (blockOf s)) (eventAs k e)
+        fair k h = subst (Allowed (ecan (blockOf s))) (ap (λ (n : ℕ). eventAs n e) h) (t .fair)
 
         at : (k : ℕ) → operation e ≡ k → Both a b o u
         at zero h =
             let f = fair 0 h in
-            quiet-one (write-one was a b (value e) (target e) (f .known) (f .notLost) (f .notRemote) (p .register h .0) (q .register h .0)) (p .register h .1) (q .register h .1)
+            quiet-one (write-one was a b (value e) (target e) (f .known) (p .register h .0) (q .register h .0)) (p .register h .1) (q .register h .1)
         at (suc zero) h = mailbox-both h
         at (suc (suc zero)) h = frame-one (p .frame h) (q .frame h)
         at (suc (suc (suc zero))) h = start-both h
@@ -299,7 +300,7 @@ module _ (s e : List ℕ) (a b : Words) (o u : Result) (bo : Bytes (o .image)) (
             let y = q .options h in
             quiet-one (by-only was a b (OPTIONS ∷ []) (x .1) (y .1) (x .0 ∙ sym (y .0), tt)) (x .2) (y .2)
         at (suc (suc (suc (suc (suc (suc (suc (suc (suc (suc zero)))))))))) h =
-            quiet-one (reset-one a b (p .reset h .0) (q .reset h .0)) (p .reset h .1) (q .reset h .1)
+            quiet-one (reset-one (was PROFILE) a b (p .reset h .0) (q .reset h .0)) (p .reset h .1) (q .reset h .1)
         at (suc (suc (suc (suc (suc (suc (suc (suc (suc (suc (suc k))))))))))) h = absurd (fair (suc (suc (suc (suc (suc (suc (suc (suc (suc (suc (suc k))))))))))) h)
 
 -- ---- the whole
@@ -308,7 +309,7 @@ module _ (s e : List ℕ) (bytes : Bytes s) (small-bytes : Bytes e) (g : goodIma
   pub one : Accepted s e o → Accepted s e u → o ≡ u
   one p q =
       let t = taken s e bytes small-bytes g z in
-      let w = of-block s (t .good) in
+      let w = of-block s in
       let bo : Bytes (o .image) = record { small = p .size .1 } in
       let bu : Bytes (u .image) = record { small = q .size .1 } in
       let x = subst (λ (v : Words). Does s e v (p .middle) o) w (p .does) in

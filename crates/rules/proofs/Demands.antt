@@ -1,5 +1,5 @@
 -- The step keeps demands 1 and 2.
-use Prim.Native.Nat.{ℕ, _+_, _*_, _%_}
+use Prim.Native.Nat.{ℕ, _+_, _*_, _%_, _≤_}
 use mathlib.Core.Path.{_≡_, refl, sym, _∙_, ap, subst}
 use mathlib.Core.Bool.{Bool, true, false}
 use mathlib.Core.List.{List}
@@ -37,10 +37,10 @@ module _ (s e x : List ℕ) (a : ℕ) (c : StepCall s e x a) where
 
 -- ---- demand 2
 
-pub fresh-is-good : (s x : List ℕ) (a : ℕ) → FreshCall s x a → length s ≡ 640 → Good x
-fresh-is-good s x a c h =
-    subst Good (sym (c .image ∙ ap (λ (u : Outcome). u .image) (fresh-one s (c .outcome) (fresh s) (c .keeps) (fresh-meets s) ∙ filled s h)))
-    (good-rule freshImage (fresh-facts .bytes) fresh-good)
+pub fresh-is-good : (s x : List ℕ) (p a : ℕ) → FreshCall s p x a → length s ≡ 776 → p ≤ 1 → Good x
+fresh-is-good s x p a c h k =
+    subst Good (sym (c .image ∙ ap (λ (u : Outcome). u .image) (fresh-one s p (c .outcome) (fresh s p) (c .keeps) (fresh-meets s p) ∙ filled p k s h)))
+    (good-rule (freshImage p) (fresh-facts p k .bytes) (fresh-good p k))
 
 module _ (s e x : List ℕ) (a : ℕ) (bytes : Bytes s) (small : Bytes e) (c : StepCall s e x a) where
   abbrev o : Outcome
@@ -59,17 +59,17 @@ module _ (s e x : List ℕ) (a : ℕ) (bytes : Bytes s) (small : Bytes e) (c : S
   none : (n : ℕ) (y : List ℕ) → BoxesStayBut 32 s y → BoxesStayBut n s y
   none n y p i l q = p i l (inl l)
 
-  pub picked : operation e ≡ 2 → (n : ℕ) → First s e n → BoxesStayBut n s x
-  picked op n first = left (BoxesStayBut n s) (λ i l q. refl) (λ p. at (p .does .frame op) (onBus (words s)) refl (words s MD has n) refl (box s n 0 has 29) refl)
+  pub picked : operation e ≡ 2 → (k n : ℕ) → First s e k n → BoxesStayBut n s x
+  picked op place n first = left (BoxesStayBut n s) (λ i l q. refl) (λ p. at (p .does .frame op) (onBus (words s)) refl (words s MD has n) refl (box s n 0 has 29) refl)
     where
       at : {now : ℕ → ℕ} → Frame s e (words s) now o → (t : Bool) → onBus (words s) ≡ t → (u : Bool) → words s MD has n ≡ u → (v : Bool) → box s n 0 has 29 ≡ v
           → BoxesStayBut n s (o .image)
       at p false h u r v k = none n (o .image) (p .unheard h .1)
-      at p true h true r v k = p .heard h .stored n first r .1 .elsewhere
-      at p true h false r true k = none n (o .image) (p .heard h .replied n first r k .1)
-      at p true h false r false k = none n (o .image) (p .heard h .ignored n first r k .1)
+      at p true h true r v k = p .heard h .stored place n first r .1 .elsewhere
+      at p true h false r true k = none n (o .image) (p .heard h .replied place n first r k .1)
+      at p true h false r false k = none n (o .image) (p .heard h .ignored place n first r k .1)
 
-  pub nobody : operation e ≡ 2 → ((n : ℕ) → First s e n → ⊥) → BoxesStayBut 32 s x
+  pub nobody : operation e ≡ 2 → ((k n : ℕ) → First s e k n → ⊥) → BoxesStayBut 32 s x
   nobody op no-first = left (BoxesStayBut 32 s) (λ i l q. refl) (λ p. at (p .does .frame op) (onBus (words s)) refl)
     where
       at : {now : ℕ → ℕ} → Frame s e (words s) now o → (t : Bool) → onBus (words s) ≡ t → BoxesStayBut 32 s (o .image)

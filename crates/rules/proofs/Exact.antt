@@ -15,7 +15,7 @@ pub exact : Exact
 exact =
     record {
       fresh-exact =
-          λ s o. (λ p. fresh-one s o (fresh s) p (fresh-meets s), λ q. subst (Fresh s) (sym q) (fresh-meets s));
+          λ s n o. (λ p. fresh-one s n o (fresh s n) p (fresh-meets s n), λ q. subst (Fresh s n) (sym q) (fresh-meets s n));
       step-exact =
           λ s e b y o.
           (λ p. rules-one s e b y o (step s e) p (step-meets s e b y), λ q. subst (Rules s e) (sym q) (step-meets s e b y));

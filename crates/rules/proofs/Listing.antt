@@ -13,6 +13,7 @@ use borrow.Author.Tests.{eq-eqb, ltb-true, ltb-false, lt-ltb}
 use Rattle.words.proofs.Bytes.{Bytes, bytes-nil, bytes-take, bytes-drop}
 use Rattle.good.proofs.Image.{GoodImage, image-good}
 use Rattle.answers.specs.Answer.{Outcome, accepted}
+use Rattle.registers.specs.Block.{canB}
 use Rattle.fresh.specs.Fresh.{zeroImage, freshImage, fresh}
 use Rattle.fresh.proofs.Good.{zero-length, fresh-facts}
 use Rattle.model.specs.Step.{step}
@@ -64,12 +65,12 @@ texts (e ∷ es) k g t h l =
 
 -- ---- the run
 
-made : (lent : List ℕ) → length lent ≡ 640 → Fresh lent (accepted freshImage)
+made : (lent : List ℕ) → length lent ≡ 776 → Fresh lent canB (accepted (freshImage canB))
 unfolding fresh
-made lent h = subst (Fresh lent) (rw (eq-eqb (length lent) 640 h)) (fresh-meets lent)
+made lent h = subst (Fresh lent canB) (rw (eq-eqb (length lent) 776 h)) (fresh-meets lent canB)
 
 abbrev text : List (List ℕ) → List ℕ
-text es = trace.header ++ (trace.lines 1 freshImage es ++ trace.ending (length es))
+text es = trace.header ++ (trace.lines 1 (freshImage canB) es ++ trace.ending (length es))
 
 module _ (es : List (List ℕ)) (small : (n : ℕ) → Bytes (getD es n [])) where
   -- a step from a good image is the product's
@@ -84,12 +85,12 @@ module _ (es : List (List ℕ)) (small : (n : ℕ) → Bytes (getD es n [])) whe
     stays = step-good s (getD es n []) (g .bytes) (small n) (image-good s g)
 
   -- the text, from a beginning and outcomes that are the product's
-  text-of : (g : ℕ → Outcome) → g 0 ≡ accepted freshImage → ((n : ℕ) → n < length es → g (suc n) ≡ step (g n .image) (getD es n []))
+  text-of : (g : ℕ → Outcome) → g 0 ≡ accepted (freshImage canB) → ((n : ℕ) → n < length es → g (suc n) ≡ step (g n .image) (getD es n []))
       → wholeText decimal g (length es) ≡ text es
   unfolding trace.ending
   text-of g z h =
       let l = upTo (length es) (λ n. line decimal n (g n)) in
-      let e : l ≡ trace.lines 1 freshImage es =
+      let e : l ≡ trace.lines 1 (freshImage canB) es =
       texts es 1 g (λ n. line decimal n (g n)) h (λ n. let q : suc n ≡ 1 + n = omega arith in line-same (suc n) (g (suc n)) ∙ ap (λ (j : ℕ). trace.line j (g (suc n))) q)
       ∙ ap (λ (o : Outcome). trace.lines 1 (o .image) es) z in
       whole-same trace.header l trace.endWord (decimal (length es)) (10 ∷ [])
@@ -97,12 +98,12 @@ module _ (es : List (List ℕ)) (small : (n : ℕ) → Bytes (getD es n [])) whe
 
   -- the product's run meets the rule
   outcomes : ℕ → Outcome
-  outcomes zero = accepted freshImage
+  outcomes zero = accepted (freshImage canB)
   outcomes (suc n) = step (outcomes n .image) (getD es n [])
 
   good : (n : ℕ) → GoodImage (outcomes n .image)
   unfolding outcomes
-  good zero = fresh-facts
+  good zero = fresh-facts canB (omega arith)
   good (suc n) = stays (outcomes n .image) n (good n)
 
   run-meets : Run es (text es)
@@ -119,9 +120,9 @@ module _ (es : List (List ℕ)) (small : (n : ℕ) → Bytes (getD es n [])) whe
 
   -- and any run that does has its text
   module _ (t : List ℕ) (r : Run es t) where
-    begun : r .outcome 0 ≡ accepted freshImage
+    begun : r .outcome 0 ≡ accepted (freshImage canB)
     begun =
-        fresh-one zeroImage (r .outcome 0) (accepted freshImage) (r .starts zeroImage zero-length) (made zeroImage zero-length)
+        fresh-one zeroImage canB (r .outcome 0) (accepted (freshImage canB)) (r .starts zeroImage zero-length) (made zeroImage zero-length)
 
     next : (n : ℕ) → n < length es → GoodImage (r .outcome n .image) → r .outcome (suc n) ≡ step (r .outcome n .image) (getD es n [])
     next n l g = only (r .outcome n .image) n g (r .outcome (suc n)) (rw (add-one n) at (r .steps n l))
@@ -130,7 +131,7 @@ module _ (es : List (List ℕ)) (small : (n : ℕ) → Bytes (getD es n [])) whe
     goes-on n l g = subst (λ (o : Outcome). GoodImage (o .image)) (sym (next n l g)) (stays (r .outcome n .image) n g)
 
     keeps : (n : ℕ) → n ≤ length es → GoodImage (r .outcome n .image)
-    keeps zero l = subst (λ (o : Outcome). GoodImage (o .image)) (sym begun) fresh-facts
+    keeps zero l = subst (λ (o : Outcome). GoodImage (o .image)) (sym begun) (fresh-facts canB (omega arith))
     keeps (suc n) l = goes-on n l (keeps n (omega arith))
 
     run-one : t ≡ text es

@@ -1,33 +1,33 @@
 -- The read meets the rules of reading, and they leave nothing open.
 use Prim.Native.Nat.{ℕ, suc, _+_, _-_, _*_, _/_, _%_, _^_, _<_, _≤_}
 use mathlib.Core.Path.{_≡_, refl, sym, _∙_, ap, ap₂, subst}
-use mathlib.Core.Bool.{Bool, true, false, _&&_, _||_, and-true, and-false, or-false, false≢true}
+use mathlib.Core.Bool.{Bool, true, false, cond, not, _&&_, _||_, and-true, and-false, or-false, false≢true}
 use mathlib.Core.List.{List, [], _∷_}
+use mathlib.Core.Logic.{_≢_}
 use native.Mathlib.Decide.{decLt, ℕ-discrete}
 use native.Mathlib.Omega.{arith}
 use native.Mathlib.Nat.{add-mod, zero-mod}
-use lib.Dec.{eqb}
+use lib.Dec.{eqb, leb}
 use lib.Pow.{mod-mod-pow, shr-shr, shl-shr}
-use borrow.Author.Tests.{eq-eqb, ne-eqb, le-leb, lt-leb}
+use borrow.Author.Tests.{eqb-false, eq-eqb, ne-eqb}
 use Rattle.bits.specs.Bit.{digit, bit, flag}
 use Rattle.bits.specs.Below.{allBelow}
 use Rattle.bits.proofs.Below.{each-below}
 use Rattle.bits.proofs.Laws.{bit-zero, bit-or, bit-flag, bit-high, same-bits, or-below, flag-lt, flag-above}
-use Rattle.words.specs.Word.{wordAt, wordsOf}
 use Rattle.words.proofs.Bytes.{Bytes}
 use Rattle.registers.specs.declared.Block.{Block}
-use Rattle.registers.specs.Block.{blockOf}
-use Rattle.registers.specs.Status.{filled, asleep, busOff, passive, warning}
-use Rattle.reading.specs.Gsr.{gsr}
-use Rattle.reading.specs.Read.{value, read}
+use Rattle.registers.specs.Block.{blockOf, emptySlot}
+use Rattle.registers.specs.Status.{vacant, filled, ecan, asleep, busOff, passive, warning}
+use Rattle.reading.specs.Gsr.{shownSlot, gsr}
+use Rattle.reading.specs.Read.{readable, placeOf, value, read}
 use Rattle.good.specs.Good.{goodImage}
 use Rattle.good.proofs.Image.{good-slot}
 use Rattle.answers.specs.Answer.{Reading}
-use Rattle.rules.specs.Words.{Words, words, among, MODE}
+use Rattle.rules.specs.Words.{Words, words, among, MODE, eCan}
 use Rattle.rules.specs.Image.{Good}
-use Rattle.rules.specs.Reading.{Gsr, Reads}
+use Rattle.rules.specs.Reading.{Gsr, isWord, Reads}
 use Rattle.rules.proofs.Good.{good-rule, rule-good, false-of}
-use Rattle.rules.proofs.Blocks.{ofBlock, among-all}
+use Rattle.rules.proofs.Blocks.{ofBlock, of-block, among-all}
 use Rattle.rules.proofs.Receiving.{bit-mod}
 
 -- ---- the bits of a sum of flags, from the highest down
@@ -50,34 +50,42 @@ more {x} {f} j t n h =
       above = add-mod x (flag t n) (2 ^ n) ∙ rw (z, flag-above t n) (zero-mod (2 ^ n));
     }
 
-module _ (b : Block) where
-  start : Bits (b .slot * 2 ^ 12) (λ m. bit (b .slot * 2 ^ 12) m) 12
+module _ (m : Words) (b : Block) where
+  start : Bits (shownSlot b * 2 ^ 12) (λ m. bit (shownSlot b * 2 ^ 12) m) 12
   start = record { bits = λ m. refl; above = omega arith }
 
   gsr-bits : (m : ℕ)
       → bit (gsr b) m
-      ≡ (bit (b .slot * 2 ^ 12) m || filled b && eqb m 10 || eqb (b .mode) 3 && eqb m 8 || eqb (b .mode) 1 && eqb m 7 || asleep b && eqb m 6 || eqb (b .tso) 1 && eqb m 3 || busOff b && eqb m 2 || passive b && eqb m 1 || warning b && eqb m 0)
+      ≡ (bit (shownSlot b * 2 ^ 12) m || filled b && eqb m 10 || eqb (b .mode) 3 && eqb m 8 || eqb (b .mode) 1 && eqb m 7 || asleep b && eqb m 6 || eqb (b .tso) 1 && eqb m 3 || busOff b && eqb m 2 || passive b && eqb m 1 || warning b && eqb m 0)
   unfolding gsr
   gsr-bits m =
       more 0 (warning b) 0 (more 0 (passive b) 1 (more 0 (busOff b) 2 (more 2 (eqb (b .tso) 1) 3 (more 0 (asleep b) 6 (more 0 (eqb (b .mode) 1) 7 (more 1 (eqb (b .mode) 3) 8 (more 1 (filled b) 10 start))))))) .bits m
 
-  no-slot : (m : ℕ) → m < 12 → bit (b .slot * 2 ^ 12) m ≡ false
+  no-slot : (m : ℕ) → m < 12 → bit (shownSlot b * 2 ^ 12) m ≡ false
   no-slot m h =
-      let z : b .slot * 2 ^ 12 % 2 ^ 12 ≡ 0 = omega arith in
-      sym (bit-mod (b .slot * 2 ^ 12) 12 m h) ∙ ap (λ (x : ℕ). bit x m) z ∙ bit-zero m
+      let z : shownSlot b * 2 ^ 12 % 2 ^ 12 ≡ 0 = omega arith in
+      sym (bit-mod (shownSlot b * 2 ^ 12) 12 m h) ∙ ap (λ (x : ℕ). bit x m) z ∙ bit-zero m
 
-  past : (m : ℕ) → 11 ≤ m → bit (gsr b) m ≡ bit (b .slot * 2 ^ 12) m
+  past : (m : ℕ) → 11 ≤ m → bit (gsr b) m ≡ bit (shownSlot b * 2 ^ 12) m
   past m h =
       gsr-bits m
       ∙ rw (ne-eqb m 10 (λ q. omega arith), ne-eqb m 8 (λ q. omega arith), ne-eqb m 7 (λ q. omega arith), ne-eqb m 6 (λ q. omega arith), ne-eqb m 3 (λ q. omega arith), ne-eqb m 2 (λ q. omega arith), ne-eqb m 1 (λ q. omega arith), ne-eqb m 0 (λ q. omega arith))
       (simp (and-false, or-false))
 
-  slot-bits : (n : ℕ) → bit (b .slot * 2 ^ 12) (12 + n) ≡ bit (b .slot) n
+  slot-bits : (n : ℕ) → bit (shownSlot b * 2 ^ 12) (12 + n) ≡ bit (shownSlot b) n
   unfolding digit
-  slot-bits n = ap (λ (x : ℕ). eqb (x % 2) 1) (sym (shr-shr (b .slot * 2 ^ 12) 12 n) ∙ ap (λ (x : ℕ). x / 2 ^ n) (shl-shr (b .slot) 12))
+  slot-bits n = ap (λ (x : ℕ). eqb (x % 2) 1) (sym (shr-shr (shownSlot b * 2 ^ 12) 12 n) ∙ ap (λ (x : ℕ). x / 2 ^ n) (shl-shr (shownSlot b) 12))
 
-  pub gsr-rule : b .slot < 32 → Gsr (ofBlock b) (gsr b)
-  gsr-rule l =
+  shown-lt : b .slot ≤ emptySlot → shownSlot b < 32
+  shown-lt h = at (vacant b) refl
+    where
+      at : (t : Bool) → vacant b ≡ t → cond t 31 (b .slot) < 32
+      at true e = omega arith
+      at false e = let n = eqb-false (b .slot) emptySlot e in omega arith
+
+  pub gsr-rule : b .slot ≤ emptySlot → Gsr (ofBlock m b) (gsr b)
+  gsr-rule h =
+      let l = shown-lt h in
       record {
         bits-16-12 = λ n h. past (12 + n) (omega arith) ∙ slot-bits n;
         bit-10 = gsr-bits 10 ∙ rw (no-slot 10 (omega arith)) (simp (and-true, and-false, or-false));
@@ -89,7 +97,7 @@ module _ (b : Block) where
         bit-1 = gsr-bits 1 ∙ rw (no-slot 1 (omega arith)) (simp (and-true, and-false, or-false));
         bit-0 = gsr-bits 0 ∙ rw (no-slot 0 (omega arith)) (simp (and-true, and-false, or-false));
         others =
-            (past 11 (omega arith) ∙ no-slot 11 (omega arith), gsr-bits 9 ∙ rw (no-slot 9 (omega arith)) (simp (and-false, or-false)), gsr-bits 5 ∙ rw (no-slot 5 (omega arith)) (simp (and-false, or-false)), gsr-bits 4 ∙ rw (no-slot 4 (omega arith)) (simp (and-false, or-false)), λ n h. past n (omega arith) ∙ bit-high n 17 (b .slot * 2 ^ 12) (omega arith) h);
+            (past 11 (omega arith) ∙ no-slot 11 (omega arith), gsr-bits 9 ∙ rw (no-slot 9 (omega arith)) (simp (and-false, or-false)), gsr-bits 5 ∙ rw (no-slot 5 (omega arith)) (simp (and-false, or-false)), gsr-bits 4 ∙ rw (no-slot 4 (omega arith)) (simp (and-false, or-false)), λ n h. past n (omega arith) ∙ bit-high n 17 (shownSlot b * 2 ^ 12) (omega arith) h);
       }
 
 -- ---- one value
@@ -117,47 +125,58 @@ gsr-one w v u p q = same-bits v u (λ n. at n (decLt n 12) (decLt n 17))
 
 -- ---- the whole
 
-of-image : (s : List ℕ) (v : ℕ) → Gsr (ofBlock (blockOf s)) v → Gsr (words s) v
-unfolding blockOf wordsOf
-of-image s v r =
-    record { bits-16-12 = r .bits-16-12; bit-10 = r .bit-10; bit-8 = r .bit-8; bit-7 = r .bit-7; bit-6 = r .bit-6; bit-3 = r .bit-3; bit-2 = r .bit-2; bit-1 = r .bit-1; bit-0 = r .bit-0; others = r .others }
+-- which numbers can be read: those of a word, and GSR's in a CAN-B
+number : (ecan : Bool) (k : ℕ) → k ≢ 32 → readable ecan k ≡ isWord k
+number ecan k d = rw (ne-eqb k 32 d, and-false (not ecan), or-false (leb k 21))
+
+word-number : (k : ℕ) → isWord k ≡ true → k ≢ 32
+word-number k h e = false≢true (sym (ap isWord e) ∙ h)
 
 pub reads : (s : List ℕ) → Bytes s → (k : ℕ) → Reads s k (read s k)
-unfolding read value blockOf wordsOf
+unfolding read value placeOf
 reads s b k =
     record {
       not-good = λ n. rw (false-of (goodImage s) (λ h. n (good-rule s b h))) (refl, refl);
-      unknown = λ h l d. rw (rule-good s b h, lt-leb k 21 l, ne-eqb k 32 d) (refl, refl);
-      register = λ h l a. rw (rule-good s b h, le-leb k 21 l, ne-eqb (wordAt s 600) 2 a, ne-eqb k 32 (λ q. omega arith)) (refl, refl);
-      gsr = λ h e a. rw (rule-good s b h, e, ne-eqb (wordAt s 600) 2 a) (refl, of-image s _ (gsr-rule (blockOf s) (good-slot s (rule-good s b h))));
-      asleep = λ h l a. rw (rule-good s b h, le-leb k 21 l, eq-eqb (wordAt s 600) 2 a, ne-eqb k 32 (λ q. omega arith)) (refl, refl);
-      asleep-gsr = λ h e a. rw (rule-good s b h, e, eq-eqb (wordAt s 600) 2 a) (refl, refl);
+      unknown = λ h l d. rw (rule-good s b h, number (ecan (blockOf s)) k d, l) (refl, refl);
+      no-gsr = λ h e c. rw (rule-good s b h, e, kind c) (refl, refl);
+      register = λ h l a. let d = word-number k l in rw (rule-good s b h, number (ecan (blockOf s)) k d, l, awake a, ne-eqb k 32 d) (refl, refl);
+      gsr =
+          λ h e c a.
+          rw (rule-good s b h, e, kind c, awake a)
+          (refl, subst (λ (w : Words). Gsr w (gsr (blockOf s))) (sym (of-block s)) (gsr-rule (words s) (blockOf s) (good-slot s (rule-good s b h))));
+      asleep = λ h l a. let d = word-number k l in rw (rule-good s b h, number (ecan (blockOf s)) k d, l, asleep-is a, ne-eqb k 32 d) (refl, refl);
+      asleep-gsr = λ h e c a. rw (rule-good s b h, e, kind c, asleep-is a) (refl, refl);
     }
+  where
+    kind : {t : Bool} → eCan (words s) ≡ t → ecan (blockOf s) ≡ t
+    kind c = ap (λ (w : Words). eCan w) (sym (of-block s)) ∙ c
+
+    awake : words s MODE ≢ 2 → asleep (blockOf s) ≡ false
+    awake a = ne-eqb (blockOf s .mode) 2 (λ q. a (ap (λ (w : Words). w MODE) (of-block s) ∙ q))
+
+    asleep-is : words s MODE ≡ 2 → asleep (blockOf s) ≡ true
+    asleep-is a = eq-eqb (blockOf s .mode) 2 (ap (λ (w : Words). w MODE) (sym (of-block s)) ∙ a)
 
 pub read-one : (s : List ℕ) → Bytes s → (k : ℕ) (r u : Reading) → Reads s k r → Reads s k u → r ≡ u
-read-one s b k r u p q = at (goodImage s) refl (decLt 21 k) (ℕ-discrete k 32) (ℕ-discrete (words s MODE) 2)
+read-one s b k r u p q = at (goodImage s) refl (isWord k) refl (ℕ-discrete k 32) (eCan (words s)) refl (ℕ-discrete (words s MODE) 2)
   where
     pair : r .refusal ≡ u .refusal → r .value ≡ u .value → r ≡ u
     pair x y = λ i. record { refusal = x i; value = y i }
 
-    at : (t : Bool) → goodImage s ≡ t → Dec (21 < k) → Dec (k ≡ 32) → Dec (words s MODE ≡ 2) → r ≡ u
-    at false g d e a =
+    alike : {n v : ℕ} → (r .refusal ≡ n) × (r .value ≡ v) → (u .refusal ≡ n) × (u .value ≡ v) → r ≡ u
+    alike x y = pair (x .0 ∙ sym (y .0)) (x .1 ∙ sym (y .1))
+
+    at : (t : Bool) → goodImage s ≡ t → (n : Bool) → isWord k ≡ n → Dec (k ≡ 32) → (c : Bool) → eCan (words s) ≡ c → Dec (words s MODE ≡ 2) → r ≡ u
+    at false g n l e c z a =
         let h : Good s → ⊥ = λ k. false≢true (sym g ∙ rule-good s b k) in
-        pair (p .not-good h .0 ∙ sym (q .not-good h .0)) (p .not-good h .1 ∙ sym (q .not-good h .1))
-    at true g (yes l) (no d) a =
+        alike (p .not-good h) (q .not-good h)
+    at true g true l e c z (yes a) = let h = good-rule s b g in alike (p .asleep h l a) (q .asleep h l a)
+    at true g true l e c z (no a) = let h = good-rule s b g in alike (p .register h l a) (q .register h l a)
+    at true g false l (no d) c z a = let h = good-rule s b g in alike (p .unknown h l d) (q .unknown h l d)
+    at true g false l (yes e) true z a = let h = good-rule s b g in alike (p .no-gsr h e z) (q .no-gsr h e z)
+    at true g false l (yes e) false z (yes a) = let h = good-rule s b g in alike (p .asleep-gsr h e z a) (q .asleep-gsr h e z a)
+    at true g false l (yes e) false z (no a) =
         let h = good-rule s b g in
-        pair (p .unknown h l d .0 ∙ sym (q .unknown h l d .0)) (p .unknown h l d .1 ∙ sym (q .unknown h l d .1))
-    at true g d (yes e) (yes a) =
-        let h = good-rule s b g in
-        pair (p .asleep-gsr h e a .0 ∙ sym (q .asleep-gsr h e a .0)) (p .asleep-gsr h e a .1 ∙ sym (q .asleep-gsr h e a .1))
-    at true g d (yes e) (no a) =
-        let h = good-rule s b g in
-        pair (p .gsr h e a .0 ∙ sym (q .gsr h e a .0)) (gsr-one (words s) (r .value) (u .value) (p .gsr h e a .1) (q .gsr h e a .1))
-    at true g (no l) (no d) (yes a) =
-        let h = good-rule s b g in
-        let z : k ≤ 21 = omega arith in
-        pair (p .asleep h z a .0 ∙ sym (q .asleep h z a .0)) (p .asleep h z a .1 ∙ sym (q .asleep h z a .1))
-    at true g (no l) (no d) (no a) =
-        let h = good-rule s b g in
-        let z : k ≤ 21 = omega arith in
-        pair (p .register h z a .0 ∙ sym (q .register h z a .0)) (p .register h z a .1 ∙ sym (q .register h z a .1))
+        let x = p .gsr h e z a in
+        let y = q .gsr h e z a in
+        pair (x .0 ∙ sym (y .0)) (gsr-one (words s) (r .value) (u .value) (x .1) (y .1))

@@ -1,7 +1,7 @@
 -- The step meets the rules of receiving.
 use Prim.Native.Nat.{ℕ, zero, suc, _+_, _-_, _*_, _/_, _%_, _^_, _<_, _≤_}
-use mathlib.Core.Path.{_≡_, refl, sym, _∙_, ap, subst}
-use mathlib.Core.Bool.{Bool, true, false, cond, _&&_, _||_, and-true, and-false, or-false, false≢true}
+use mathlib.Core.Path.{_≡_, refl, sym, _∙_, ap, ap₂, subst}
+use mathlib.Core.Bool.{Bool, true, false, cond, not, _&&_, _||_, and-true, and-false, or-false, false≢true}
 use mathlib.Core.List.{List, [], _∷_}
 use mathlib.Core.Logic.{_≢_}
 use native.Mathlib.Decide.{decLt, ℕ-discrete}
@@ -12,7 +12,7 @@ use lib.ListN.{getD, length, drop}
 use lib.Seq.{getD-take, getD-drop}
 use lib.Bits.{or-zero-r}
 use lib.Pow.{field, mod-mod-pow}
-use borrow.Author.Tests.{eqb-true, ne-eqb, ltb-true, lt-ltb, le-ltb}
+use borrow.Author.Tests.{eqb-true, ne-eqb, ltb-true, lt-ltb, le-ltb, not-false}
 use Rattle.bits.specs.Bit.{digit, bit}
 use Rattle.bits.specs.Below.{countBelow}
 use Rattle.bits.proofs.Laws.{bit-zero, bit-high}
@@ -36,17 +36,17 @@ use Rattle.events.proofs.Allowed.{FrameAllowed}
 use Rattle.filter.specs.declared.Delivery.{Delivery}
 use Rattle.filter.specs.declared.Delivery.the-variants.{Into, Reply, Nowhere}
 use Rattle.filter.specs.declared.Found.the-variants.{At}
-use Rattle.filter.specs.Filter.{matches, maskFor, comparedBelow, hits, placed, delivery}
+use Rattle.filter.specs.Filter.{seat as seatOf, matches, maskFor, freedBy, takes, comparedBefore, hits, hitsAt, placed, delivery}
 use Rattle.filter.proofs.Matching.{match-agrees, agrees-match, compared-bit, frame-bit}
-use Rattle.filter.proofs.Search.{candidate-bit, isCompared, isMatching, hit, not-compared, not-matching, stops, Stopped, Passed}
+use Rattle.filter.proofs.Search.{candidate-bit, seat-lt, isCompared, isGuarded, hit, not-compared, not-taking, guarded-bit, stops, Stopped, Passed}
 use Rattle.filter.proofs.Ways.{Way, off-bus, no-match, stored as way-stored, replied as way-replied, ignored as way-ignored, way, unheard, taken, stored-at, replied-at, ignored-at}
 use Rattle.good.proofs.Image.{GoodImage}
 use Rattle.answers.specs.Answer.{Outcome as Result}
 use Rattle.model.specs.Step.{delivered, stowed, namedBy, countOf}
 use Rattle.model.proofs.Meets.{calm}
-use Rattle.rules.specs.Words.{_has_, _is_, words, box, byte, Only, BoxesStayBut, TRS, RMP, RML, LAM, GAM, RFP, MBRIF, GIF, REC, MODE}
+use Rattle.rules.specs.Words.{Words, _has_, _is_, words, box, byte, Only, BoxesStayBut, TRS, RMP, RML, LAM, GAM, RFP, MBRIF, GIF, REC, MODE, MASKS, eCan}
 use Rattle.rules.specs.Events.{value, target, rtr, carried, Answers}
-use Rattle.rules.specs.Receiving.{compared, matters, freed, Matches, First, countTo, Stored, Heard, Frame}
+use Rattle.rules.specs.Receiving.{compared, matters, freed, Matches, seat, guarded, First, countTo, Stored, Heard, Frame}
 use Rattle.rules.proofs.Blocks.{ofBlock, only}
 
 -- ---- bits of a field
@@ -67,14 +67,20 @@ module _ (s e : List ℕ) where
   unfolding frameOf blockOf wordsOf
   compared-same n = candidate-bit (blockOf s) f n
 
-  pub freed-same : (n i : ℕ) → bit (cond (maskable (box s n 0)) (maskFor (blockOf s) n) 0) i ≡ freed s n i
+  pub freed-same : (n i : ℕ) → bit (freedBy (maskFor s (blockOf s) n) (box s n 0)) i ≡ freed s n i
   unfolding blockOf wordsOf
-  freed-same n i = at (maskable (box s n 0)) (eqb n 31)
+  freed-same n i = at (maskable (box s n 0)) (eCan (words s)) (eqb n 31)
     where
-      at : (t u : Bool) → bit (cond t (cond u (wordAt s 544) (wordAt s 548)) 0) i ≡ (t && words s (cond u LAM GAM) has i)
-      at true true = refl
-      at true false = refl
-      at false u = bit-zero i
+      at : (t c u : Bool) → bit (cond t (cond c (wordAt s (640 + 4 * n)) (cond u (wordAt s 544) (wordAt s 548))) 0) i
+          ≡ (t && cond c (words s (MASKS + n)) (words s (cond u LAM GAM)) has i)
+      at true true u = ap (λ (k : ℕ). bit (wordAt s k) i) (omega arith)
+      at true false true = refl
+      at true false false = refl
+      at false c u = bit-zero i
+
+  pub guarded-same : (n : ℕ) → isGuarded s n ≡ guarded (words s) n
+  unfolding blockOf wordsOf
+  guarded-same n = guarded-bit (blockOf s) n
 
   pub frame-same : (i : ℕ) → matters e i ≡ true → bit (cond (value e has 31) (2 ^ 31) 0 + value e % 2 ^ 29) i ≡ (value e has i)
   unfolding frameOf
@@ -89,41 +95,52 @@ module _ (s e : List ℕ) where
           let l = ltb-true i 29 (and-l (ltb i 29) (value e has 31 || leb 18 i) (rw q at h)) in
           rw (q, and-false (value e has 31)) (bit-mod (value e) 29 i l)
 
-  pub match-same : (n : ℕ) → isMatching s f n ≡ true → Matches s e n
-  unfolding frameOf
+  pub match-same : (n : ℕ) → matches s f n ≡ true → Matches s e n
+  unfolding frameOf matches
   match-same n h i m z =
-      match-agrees (blockOf s) f n (box s n 0) h i (compared-bit f i ∙ m) (freed-same n i ∙ z) ∙ frame-same i m
+      match-agrees (maskFor s (blockOf s) n) f (box s n 0) h i (compared-bit f i ∙ m) (freed-same n i ∙ z) ∙ frame-same i m
 
-  pub same-match : (n : ℕ) → Matches s e n → isMatching s f n ≡ true
-  unfolding frameOf
+  pub same-match : (n : ℕ) → Matches s e n → matches s f n ≡ true
+  unfolding frameOf matches
   same-match n h =
-      agrees-match (blockOf s) f n (box s n 0)
+      agrees-match (maskFor s (blockOf s) n) f (box s n 0)
       (λ i m z. let p = sym (compared-bit f i) ∙ m in h i p (sym (freed-same n i) ∙ z) ∙ sym (frame-same i p))
 
-  pub first : (n c : ℕ) → Stopped s f n c → First s e n
+  -- a mailbox that matches takes the frame, unless it passes it over
+  takes-same : (n : ℕ) → Matches s e n → takes s f n ≡ not (guarded (words s) n)
+  unfolding takes
+  takes-same n h = rw (same-match n h) (ap not (guarded-same n))
+
+  pub first : (n c : ℕ) (p : Stopped s f n c) → First s e (p .place) n
+  unfolding seatOf blockOf
   first n c p =
       record {
-        there = p .there;
+        there = p .before-end;
+        seated = sym (p .seated);
         compares = sym (compared-same n) ∙ p .compared;
         matches = match-same n (p .matching);
-        before = λ m l q r. false≢true (sym (p .none-before m l (compared-same m ∙ q)) ∙ same-match m r);
+        takes = sym (guarded-same n) ∙ p .unguarded;
+        before = λ j l q r. not-false _ (sym (takes-same _ r) ∙ p .none-before j l (compared-same _ ∙ q));
       }
 
-  first-one : (n m : ℕ) → First s e n → First s e m → n ≡ m
-  first-one n m p q = at (decLt n m) (decLt m n)
-    where
-      at : Dec (n < m) → Dec (m < n) → n ≡ m
-      at (yes l) d = absurd (q .before n l (p .compares) (p .matches))
-      at (no l) (yes k) = absurd (p .before m k (q .compares) (q .matches))
-      at (no l) (no k) = omega arith
+  pub first-there : (k n : ℕ) → First s e k n → n < 32
+  unfolding seatOf blockOf
+  first-there k n p = subst (λ (m : ℕ). m < 32) (p .seated) (seat-lt (blockOf s) k (p .there))
 
-  pub missed : (c : ℕ) → Passed s f c → (n : ℕ) → First s e n → ⊥
-  missed c p n q = false≢true (sym (p .none n (q .there) (compared-same n ∙ q .compares)) ∙ same-match n (q .matches))
+  pub missed : (c : ℕ) → Passed s f c → (k n : ℕ) → First s e k n → ⊥
+  missed c p k n q =
+      false≢true
+      (sym (p .none n (first-there k n q) (compared-same n ∙ q .compares)) ∙ takes-same n (q .matches) ∙ ap not (q .takes))
 
-  count-same : (n : ℕ) → comparedBelow s f n ≡ countTo s e n
-  unfolding countBelow
+  count-same : (k : ℕ) → comparedBefore s f k ≡ countTo s e k
+  unfolding countBelow seatOf blockOf
   count-same zero = refl
-  count-same (suc n) = rw (count-same n, compared-same n)
+  count-same (suc k) = rw (count-same k, compared-same (seat (words s) k))
+
+-- a mailbox that does not match takes nothing
+not-matching : (s : List ℕ) (x : EventFrame) (n : ℕ) → matches s x n ≡ false → takes s x n ≡ false
+unfolding takes
+not-matching s x n h = rw h
 
 -- ---- a frame in its mailbox
 
@@ -241,6 +258,9 @@ module _ (s e : List ℕ) (g : GoodImage s) (by : Bytes e) (ok : FrameAllowed (f
   abbrev pub b0 : Block
   b0 = blockOf s
 
+  abbrev pub others : Words
+  others = words s
+
   abbrev pub fx : EventFrame
   fx = frameOf e
 
@@ -265,28 +285,38 @@ module _ (s e : List ℕ) (g : GoodImage s) (by : Bytes e) (ok : FrameAllowed (f
   rec-left (Reply n c) h = ap (λ (y : Block). y .rec) (calm-left (Reply n c)) ∙ ap (λ (y : Block). y .rec) (heard-block b0 h)
   rec-left (Nowhere c) h = ap (λ (y : Block). y .rec) (calm-left (Nowhere c)) ∙ ap (λ (y : Block). y .rec) (heard-block b0 h)
 
-  -- where it goes, by the first that matches
-  goes-at : onBus b0 ≡ true → (n : ℕ) → First s e n → delivery s fx ≡ placed s (At n (countTo s e (n + 1)))
-  goes-at h n p =
-      taken s fx h (At n (countTo s e (n + 1)))
-      (stops s fx n (p .there) (hit s fx n (compared-same s e n ∙ p .compares) (same-match s e n (p .matches))) none
-      ∙ ap (At n) (count-same s e (suc n) ∙ ap (countTo s e) (sym (add-one n))))
+  -- where it goes, by where the search stops
+  goes-at : onBus b0 ≡ true → (k n : ℕ) → First s e k n → delivery s fx ≡ placed s (At n (countTo s e (k + 1)))
+  unfolding seatOf blockOf
+  goes-at h k n p =
+      taken s fx h (At n (countTo s e (k + 1)))
+      (stops s fx k (p .there) (subst (λ (m : ℕ). hits s fx m ≡ true) (sym (p .seated)) hits-here) none
+      ∙ ap₂ At (p .seated) (count-same s e (suc k) ∙ ap (countTo s e) (sym (add-one k))))
     where
-      none : (j : ℕ) → j < n → hits s fx j ≡ false
-      none j l = at (isCompared s fx j) refl (isMatching s fx j) refl
-        where
-          at : (t : Bool) → isCompared s fx j ≡ t → (u : Bool) → isMatching s fx j ≡ u → hits s fx j ≡ false
-          at false q u r = not-compared s fx j q
-          at true q false r = not-matching s fx j r
-          at true q true r = absurd (p .before j l (sym (compared-same s e j) ∙ q) (match-same s e j r))
+      hits-here : hits s fx n ≡ true
+      hits-here = hit s fx n (compared-same s e n ∙ p .compares) (takes-same s e n (p .matches) ∙ ap not (p .takes))
 
-  stored-by : (n : ℕ) → n < 32 → onBus b0 ≡ true → (c : ℕ) → Stored s e n (ofBlock b0) (ofBlock (left (Into n c))) (out (Into n c) .image)
+      none : (j : ℕ) → j < k → hitsAt s fx j ≡ false
+      none j l = at (seat (words s) j) refl
+        where
+          at : (m : ℕ) → seat (words s) j ≡ m → hits s fx m ≡ false
+          at m z = by-tests (isCompared s fx m) refl (matches s fx m) refl
+            where
+              by-tests : (t : Bool) → isCompared s fx m ≡ t → (u : Bool) → matches s fx m ≡ u → hits s fx m ≡ false
+              by-tests false q u r = not-compared s fx m q
+              by-tests true q false r = not-taking s fx m (not-matching s fx m r)
+              by-tests true q true r =
+                  let v = match-same s e m r in
+                  let g = rw z at (p .before j l) in
+                  not-taking s fx m (takes-same s e m v ∙ ap not (g (sym (compared-same s e m) ∙ q) v))
+
+  stored-by : (n : ℕ) → n < 32 → onBus b0 ≡ true → (c : ℕ) → Stored s e n (ofBlock others b0) (ofBlock others (left (Into n c))) (out (Into n c) .image)
   unfolding stowed delivered stored
   stored-by n l h c =
       let x = settled (left (Into n c)) in
       let y = withRec b0 (fallen (b0 .rec)) in
       let q : left (Into n c) ≡ stored y n (rtr e) = calm-left (Into n c) ∙ ap (λ (z : Block). stored z n (rtr e)) (heard-block b0 h) in
-      subst (λ (z : Block). Stored s e n (ofBlock b0) (ofBlock z) (out (Into n c) .image)) (sym q)
+      subst (λ (z : Block). Stored s e n (ofBlock others b0) (ofBlock others z) (out (Into n c) .image)) (sym q)
       (record {
         word-0 = word-0 s e g by ok n l x;
         word-1 = word-1 s e g by ok n l x;
@@ -298,49 +328,49 @@ module _ (s e : List ℕ) (g : GoodImage s) (by : Bytes e) (ok : FrameAllowed (f
         mbrif = λ m. stored-mbrif y n (rtr e) m;
         rfp = λ m. stored-rfp y n (rtr e) m;
         gif = λ i. stored-gif y n (rtr e) i;
-        rest = only (RML ∷ RMP ∷ MBRIF ∷ RFP ∷ GIF ∷ REC ∷ []) b0 _ refl;
+        rest = only (RML ∷ RMP ∷ MBRIF ∷ RFP ∷ GIF ∷ REC ∷ []) others b0 _ refl;
       })
 
   -- what is left of the words where nothing is stored
-  plain : (c : ℕ) → onBus b0 ≡ true → Only (REC ∷ []) (ofBlock b0) (ofBlock (left (Nowhere c)))
+  plain : (c : ℕ) → onBus b0 ≡ true → Only (REC ∷ []) (ofBlock others b0) (ofBlock others (left (Nowhere c)))
   unfolding delivered
   plain c h =
       let q : left (Nowhere c) ≡ withRec b0 (fallen (b0 .rec)) = calm-left (Nowhere c) ∙ heard-block b0 h in
-      subst (λ (z : Block). Only (REC ∷ []) (ofBlock b0) (ofBlock z)) (sym q) (only (REC ∷ []) b0 (withRec b0 (fallen (b0 .rec))) refl)
+      subst (λ (z : Block). Only (REC ∷ []) (ofBlock others b0) (ofBlock others z)) (sym q) (only (REC ∷ []) others b0 (withRec b0 (fallen (b0 .rec))) refl)
 
   nowhere : (c : ℕ) → Answers 32 c (out (Nowhere c)) × BoxesStayBut 32 s (out (Nowhere c) .image)
   unfolding stowed
   nowhere c = ((refl, refl), kept (Nowhere c) refl)
 
-  nobody-goes : onBus b0 ≡ true → ((n : ℕ) → First s e n → ⊥) → delivery s fx ≡ Nowhere (countTo s e 32)
+  nobody-goes : onBus b0 ≡ true → ((k n : ℕ) → First s e k n → ⊥) → delivery s fx ≡ Nowhere (countTo s e 32)
   nobody-goes h z = at (way s fx)
     where
       at : Way s fx (delivery s fx) → delivery s fx ≡ Nowhere (countTo s e 32)
       at (off-bus q d) = absurd (false≢true (sym q ∙ h))
       at (no-match c q p d) = d ∙ ap Nowhere (p .counted ∙ count-same s e 32)
-      at (way-stored n c q p r d) = absurd (z n (first s e n c p))
-      at (way-replied n c q p r u d) = absurd (z n (first s e n c p))
-      at (way-ignored n c q p r u d) = absurd (z n (first s e n c p))
+      at (way-stored n c q p r d) = absurd (z (p .place) n (first s e n c p))
+      at (way-replied n c q p r u d) = absurd (z (p .place) n (first s e n c p))
+      at (way-ignored n c q p r u d) = absurd (z (p .place) n (first s e n c p))
 
-  quiet : onBus b0 ≡ false → wakened b0 ≡ false → Only [] (ofBlock b0) (ofBlock (left (Nowhere 0)))
+  quiet : onBus b0 ≡ false → wakened b0 ≡ false → Only [] (ofBlock others b0) (ofBlock others (left (Nowhere 0)))
   unfolding delivered listened
   quiet h z =
       let q : listened b0 ≡ b0 = rw (h, z, or-zero-r (b0 .gif)) in
-      λ k o. ap (λ (y : Block). ofBlock y k) (calm-left (Nowhere 0) ∙ q)
+      λ k o. ap (λ (y : Block). ofBlock others y k) (calm-left (Nowhere 0) ∙ q)
 
   woken : wakened b0 ≡ true
-      → (left (Nowhere 0) .mode ≡ 0) × ((n : ℕ) → (left (Nowhere 0) .gif has n) ≡ (b0 .gif has n || n is 6)) × Only (MODE ∷ GIF ∷ []) (ofBlock b0) (ofBlock (left (Nowhere 0)))
+      → (left (Nowhere 0) .mode ≡ 0) × ((n : ℕ) → (left (Nowhere 0) .gif has n) ≡ (b0 .gif has n || n is 6)) × Only (MODE ∷ GIF ∷ []) (ofBlock others b0) (ofBlock others (left (Nowhere 0)))
   unfolding delivered listened
   woken z =
       let q = calm-left (Nowhere 0) in
       let h = asleep-off b0 z in (
         ap (λ (y : Block). y .mode) q ∙ rw z,
         λ n. ap (λ (y : Block). bit (y .gif) n) q ∙ listened-gif b0 n ∙ ap (λ (u : Bool). bit (b0 .gif) n || u && eqb n 6) z,
-        λ k o. ap (λ (y : Block). ofBlock y k) q ∙ only (MODE ∷ GIF ∷ []) b0 (listened b0) (rw h) k o,
+        λ k o. ap (λ (y : Block). ofBlock others y k) q ∙ only (MODE ∷ GIF ∷ []) others b0 (listened b0) (rw h) k o,
       )
 
   replies : (n c : ℕ) → onBus b0 ≡ true
-      → Answers n c (out (Reply n c)) × BoxesStayBut 32 s (out (Reply n c) .image) × ((m : ℕ) → (left (Reply n c) .trs has m) ≡ (b0 .trs has m || m is n)) × Only (TRS ∷ REC ∷ []) (ofBlock b0) (ofBlock (left (Reply n c)))
+      → Answers n c (out (Reply n c)) × BoxesStayBut 32 s (out (Reply n c) .image) × ((m : ℕ) → (left (Reply n c) .trs has m) ≡ (b0 .trs has m || m is n)) × Only (TRS ∷ REC ∷ []) (ofBlock others b0) (ofBlock others (left (Reply n c)))
   unfolding stowed delivered
   replies n c h =
       let y = withRec b0 (fallen (b0 .rec)) in
@@ -348,13 +378,13 @@ module _ (s e : List ℕ) (g : GoodImage s) (by : Bytes e) (ok : FrameAllowed (f
         (refl, refl),
         kept (Reply n c) refl,
         λ m. ap (λ (z : Block). bit (z .trs) m) q ∙ replied-trs y n (rtr e) m,
-        λ k o. ap (λ (z : Block). ofBlock z k) q ∙ only (TRS ∷ REC ∷ []) b0 (replied y n) refl k o,
+        λ k o. ap (λ (z : Block). ofBlock others z k) q ∙ only (TRS ∷ REC ∷ []) others b0 (replied y n) refl k o,
       )
 
   abbrev goes : Delivery
   goes = delivery s fx
 
-  heard : onBus b0 ≡ true → Heard s e (ofBlock b0) (ofBlock (left goes)) (out goes)
+  heard : onBus b0 ≡ true → Heard s e (ofBlock others b0) (ofBlock others (left goes)) (out goes)
   unfolding blockOf wordsOf
   heard h =
       record {
@@ -363,36 +393,36 @@ module _ (s e : List ℕ) (g : GoodImage s) (by : Bytes e) (ok : FrameAllowed (f
         nobody =
             λ z.
             let c = countTo s e 32 in
-            subst (λ (d : Delivery). Answers 32 c (out d) × BoxesStayBut 32 s (out d .image) × Only (REC ∷ []) (ofBlock b0) (ofBlock (left d)))
+            subst (λ (d : Delivery). Answers 32 c (out d) × BoxesStayBut 32 s (out d .image) × Only (REC ∷ []) (ofBlock others b0) (ofBlock others (left d)))
             (sym (nobody-goes h z)) (nowhere c .0, nowhere c .1, plain c h);
         stored =
-            λ n p m.
-            let c = countTo s e (n + 1) in
-            subst (λ (d : Delivery). Answers n c (out d) × Stored s e n (ofBlock b0) (ofBlock (left d)) (out d .image))
-            (sym (goes-at h n p ∙ stored-at s n c m)) ((refl, refl), stored-by n (p .there) h c);
+            λ k n p m.
+            let c = countTo s e (k + 1) in
+            subst (λ (d : Delivery). Answers n c (out d) × Stored s e n (ofBlock others b0) (ofBlock others (left d)) (out d .image))
+            (sym (goes-at h k n p ∙ stored-at s n c m)) ((refl, refl), stored-by n (first-there s e k n p) h c);
         replied =
-            λ n p m r.
-            let c = countTo s e (n + 1) in
+            λ k n p m r.
+            let c = countTo s e (k + 1) in
             subst
-            (λ (d : Delivery). Answers n c (out d) × BoxesStayBut 32 s (out d .image) × ((m : ℕ) → (left d .trs has m) ≡ (b0 .trs has m || m is n)) × Only (TRS ∷ REC ∷ []) (ofBlock b0) (ofBlock (left d)))
-            (sym (goes-at h n p ∙ replied-at s n c m r)) (replies n c h);
+            (λ (d : Delivery). Answers n c (out d) × BoxesStayBut 32 s (out d .image) × ((m : ℕ) → (left d .trs has m) ≡ (b0 .trs has m || m is n)) × Only (TRS ∷ REC ∷ []) (ofBlock others b0) (ofBlock others (left d)))
+            (sym (goes-at h k n p ∙ replied-at s n c m r)) (replies n c h);
         ignored =
-            λ n p m r.
-            let c = countTo s e (n + 1) in
-            subst (λ (d : Delivery). Answers 32 c (out d) × BoxesStayBut 32 s (out d .image) × Only (REC ∷ []) (ofBlock b0) (ofBlock (left d)))
-            (sym (goes-at h n p ∙ ignored-at s n c m r)) (nowhere c .0, nowhere c .1, plain c h);
+            λ k n p m r.
+            let c = countTo s e (k + 1) in
+            subst (λ (d : Delivery). Answers 32 c (out d) × BoxesStayBut 32 s (out d .image) × Only (REC ∷ []) (ofBlock others b0) (ofBlock others (left d)))
+            (sym (goes-at h k n p ∙ ignored-at s n c m r)) (nowhere c .0, nowhere c .1, plain c h);
       }
 
-  pub frame : Frame s e (ofBlock b0) (ofBlock (left goes)) (out goes)
+  pub frame : Frame s e (ofBlock others b0) (ofBlock others (left goes)) (out goes)
   unfolding blockOf wordsOf
   frame =
       record {
         heard = heard;
         unheard = λ h. subst (λ (d : Delivery). Answers 32 0 (out d) × BoxesStayBut 32 s (out d .image)) (sym (unheard s fx h)) (nowhere 0);
-        stays = λ h z. subst (λ (d : Delivery). Only [] (ofBlock b0) (ofBlock (left d))) (sym (unheard s fx h)) (quiet h z);
+        stays = λ h z. subst (λ (d : Delivery). Only [] (ofBlock others b0) (ofBlock others (left d))) (sym (unheard s fx h)) (quiet h z);
         wakes =
             λ z.
             subst
-            (λ (d : Delivery). (left d .mode ≡ 0) × ((n : ℕ) → (left d .gif has n) ≡ (b0 .gif has n || n is 6)) × Only (MODE ∷ GIF ∷ []) (ofBlock b0) (ofBlock (left d)))
+            (λ (d : Delivery). (left d .mode ≡ 0) × ((n : ℕ) → (left d .gif has n) ≡ (b0 .gif has n || n is 6)) × Only (MODE ∷ GIF ∷ []) (ofBlock others b0) (ofBlock others (left d)))
             (sym (unheard s fx (asleep-off b0 z))) (woken z);
       }

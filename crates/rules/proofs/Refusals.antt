@@ -1,35 +1,37 @@
 -- The refusals of the rulebook are the product's.
 use Prim.Native.Nat.{ℕ, zero, suc, _+_, _*_, _/_, _%_, _^_, _<_, _≤_}
 use mathlib.Core.Path.{_≡_, refl, sym, _∙_, ap, ap₂, subst}
-use mathlib.Core.Bool.{Bool, true, false, cond, not, xor, _&&_, _||_, or-true, or-false, false≢true}
+use mathlib.Core.Bool.{Bool, true, false, cond, not, xor, _&&_, _||_, and-true, and-false, or-true, or-false, false≢true}
 use mathlib.Core.List.{List, [], _∷_}
 use native.Mathlib.Decide.{decLt, ℕ-discrete}
 use native.Mathlib.Omega.{arith}
-use lib.Dec.{eqb, ltb, leb}
+use lib.Dec.{eqb, ltb, leb, lit<}
 use lib.Bits.{bitAnd, bitXor}
 use lib.ListN.{length, List·getD-eq-default}
-use borrow.Author.Tests.{eqb-true, eq-eqb, ne-eqb, ltb-false, lt-ltb, le-ltb, le-leb, lt-leb}
+use borrow.Author.Tests.{eqb-true, eqb-false, eq-eqb, ne-eqb, leb-true, ltb-false, lt-ltb, le-ltb, le-leb, lt-leb}
 use Rattle.bits.specs.Bit.{digit, bit, without, setBit, mask}
 use Rattle.bits.specs.Below.{allBelow}
 use Rattle.bits.specs.Tests.{topDown, gapDown, firstFrom}
 use Rattle.bits.proofs.Laws.{bit-high, bit-and, bit-or, bit-xor, bit-mask, bit-without}
-use Rattle.bits.proofs.Sets.{and-lt-l, top-up}
+use Rattle.bits.proofs.Sets.{and-lt-l, top-up, and-l, and-r}
 use Rattle.bits.proofs.Below.{each-below, all-below}
+use Rattle.words.specs.Word.{wordsOf}
 use Rattle.words.proofs.Bytes.{Bytes, word-lt}
 use Rattle.registers.specs.declared.Block.{Block}
 use Rattle.registers.specs.Block.{blockOf}
 use Rattle.registers.specs.Status as Status
+use Rattle.registers.specs.Writes.{direction}
 use Rattle.mailboxes.proofs.Filed.{data-bytes-le}
 use Rattle.events.specs.Parts.{payload, quiet, frameAllowed}
 use Rattle.mailboxes.specs.Mailbox.{wordLayout}
-use Rattle.events.specs.Decode.{lastOutcome, knownAs, wakefulAs, quietAs, allowedAs, eventAs, registerAllowed}
+use Rattle.events.specs.Decode.{isMask as product-mask, writable, lastOutcome, knownAs, wakefulAs, quietAs, allowedAs, eventAs, registerAllowed}
 use Rattle.events.proofs.Laws.{each}
 use Rattle.events.proofs.Unused.{data-unused, unused-data}
 use Rattle.good.specs.Good.{goodImage}
 use Rattle.good.proofs.Image.{GoodImage, image-facts}
 use Rattle.refusals.specs.Refusal as product
-use Rattle.rules.specs.Words.{Words, words, _has_, _is_, byte, box, any}
-use Rattle.rules.specs.Events.{operation, target, word, value, rtr, highestDlc, unknown, asleep, usesData, unused, registerBad, wordBad, bad, turned, busy, locked, pointless}
+use Rattle.rules.specs.Words.{Words, words, _has_, _is_, byte, box, any, eCan, added, isMask}
+use Rattle.rules.specs.Events.{operation, target, word, value, rtr, highestDlc, unknown, asleep, usesData, unused, registerBad, wordBad, bad, turned, busy, foreign, locked, pointless}
 use Rattle.rules.proofs.Any.{any-word}
 use Rattle.rules.proofs.Blocks.{ofBlock, of-block}
 
@@ -105,27 +107,53 @@ pad4 : (x : Bool) → x ≡ (x || false || false || false || false)
 pad4 true = refl
 pad4 false = refl
 
+and-comm : (a b : Bool) → (a && b) ≡ (b && a)
+and-comm true true = refl
+and-comm true false = refl
+and-comm false true = refl
+and-comm false false = refl
+
+pad5 : (x : Bool) → x ≡ (x || false || false || false || false || false)
+pad5 true = refl
+pad5 false = refl
+
 -- ---- refusal 4: values
 
-register-bad : (t v : ℕ) → v < 2 ^ 32 → not (registerAllowed t v) ≡ registerBad t v
-unfolding registerAllowed
-register-bad t v h = at (ℕ-discrete t 8) (ℕ-discrete t 9) (ℕ-discrete t 11) (ℕ-discrete t 15) (ℕ-discrete t 16) (ℕ-discrete t 17) (ℕ-discrete t 18) (ℕ-discrete t 19)
-  where
-    of : (k : ℕ) → not (registerAllowed k v) ≡ registerBad k v → t ≡ k → not (registerAllowed t v) ≡ registerBad t v
-    of k x e = subst (λ (t : ℕ). not (registerAllowed t v) ≡ registerBad t v) (sym e) x
+-- a mask is LAM, GAM or one of the registers 64 to 95
+mask-same : (t : ℕ) → isMask t ≡ (eqb t 8 || eqb t 9 || product-mask t)
+mask-same t = rw (or-false (eqb t 9))
 
-    at : Dec (t ≡ 8) → Dec (t ≡ 9) → Dec (t ≡ 11) → Dec (t ≡ 15) → Dec (t ≡ 16) → Dec (t ≡ 17) → Dec (t ≡ 18) → Dec (t ≡ 19)
-        → not (registerAllowed t v) ≡ registerBad t v
-    at (yes e) b c d f g i j = of 8 (gap-bits v ∙ pad4 _) e
-    at (no a) (yes e) c d f g i j = of 9 (gap-bits v ∙ pad4 _) e
-    at (no a) (no b) (yes e) d f g i j = of 11 (top-bit v h ∙ pad3 _) e
-    at (no a) (no b) (no c) (yes e) f g i j = of 15 (not-ltb v 255 ∙ pad2 _) e
-    at (no a) (no b) (no c) (no d) (yes e) g i j = of 16 (not-ltb v 255 ∙ pad2 _) e
-    at (no a) (no b) (no c) (no d) (no f) (yes e) i j = of 17 (not-ltb v 1023 ∙ pad1 _) e
-    at (no a) (no b) (no c) (no d) (no f) (no g) (yes e) j = of 18 (not-ltb v 1023 ∙ pad1 _) e
-    at (no a) (no b) (no c) (no d) (no f) (no g) (no i) (yes e) = of 19 refl e
-    at (no a) (no b) (no c) (no d) (no f) (no g) (no i) (no j) =
-        rw (ne-eqb t 8 a, ne-eqb t 9 b, ne-eqb t 11 c, ne-eqb t 15 d, ne-eqb t 16 f, ne-eqb t 17 g, ne-eqb t 18 i, ne-eqb t 19 j)
+register-bad : (w : Words) (t v : ℕ) → v < 2 ^ 32 → not (registerAllowed (eCan w) t v) ≡ registerBad w t v
+unfolding registerAllowed
+register-bad w t v h = at (ℕ-discrete t 8) (ℕ-discrete t 9) (product-mask t) refl (ℕ-discrete t 11) (ℕ-discrete t 15) (ℕ-discrete t 16) (ℕ-discrete t 17) (ℕ-discrete t 18) (ℕ-discrete t 19)
+  where
+    Bad : ℕ → Type 0
+    Bad t = not (registerAllowed (eCan w) t v) ≡ registerBad w t v
+
+    of : (k : ℕ) → Bad k → t ≡ k → Bad t
+    of k x e = subst Bad (sym e) x
+
+    top : not (eCan w || topDown v) ≡ (v has 31 && not (eCan w))
+    top = not-or (eCan w) (topDown v) ∙ ap (λ (x : Bool). not (eCan w) && x) (top-bit v h) ∙ and-comm (not (eCan w)) (v has 31)
+
+    -- a number from 64 on is none of the low ones
+    high : 64 ≤ t → (k : ℕ) → k < 64 → eqb t k ≡ false
+    high l k u = ne-eqb t k (λ q. omega arith)
+
+    at : Dec (t ≡ 8) → Dec (t ≡ 9) → (u : Bool) → product-mask t ≡ u → Dec (t ≡ 11) → Dec (t ≡ 15) → Dec (t ≡ 16) → Dec (t ≡ 17) → Dec (t ≡ 18) → Dec (t ≡ 19) → Bad t
+    at (yes e) b u m c d f g i j = of 8 (gap-bits v ∙ pad4 _) e
+    at (no a) (yes e) u m c d f g i j = of 9 (gap-bits v ∙ pad4 _) e
+    at (no a) (no b) true m c d f g i j =
+        let l = leb-true 64 t (and-l (leb 64 t) (leb t 95) m) in
+        rw (mask-same t, high l 8 (lit< tt), high l 9 (lit< tt), high l 11 (lit< tt), high l 15 (lit< tt), high l 16 (lit< tt), high l 17 (lit< tt), high l 18 (lit< tt), high l 19 (lit< tt), m) (gap-bits v ∙ pad4 _)
+    at (no a) (no b) false m (yes e) d f g i j = of 11 (top ∙ pad3 _) e
+    at (no a) (no b) false m (no c) (yes e) f g i j = of 15 (not-ltb v 255 ∙ pad2 _) e
+    at (no a) (no b) false m (no c) (no d) (yes e) g i j = of 16 (not-ltb v 255 ∙ pad2 _) e
+    at (no a) (no b) false m (no c) (no d) (no f) (yes e) i j = of 17 (not-ltb v 1023 ∙ pad1 _) e
+    at (no a) (no b) false m (no c) (no d) (no f) (no g) (yes e) j = of 18 (not-ltb v 1023 ∙ pad1 _) e
+    at (no a) (no b) false m (no c) (no d) (no f) (no g) (no i) (yes e) = of 19 refl e
+    at (no a) (no b) false m (no c) (no d) (no f) (no g) (no i) (no j) =
+        rw (mask-same t, ne-eqb t 8 a, ne-eqb t 9 b, m, ne-eqb t 11 c, ne-eqb t 15 d, ne-eqb t 16 f, ne-eqb t 17 g, ne-eqb t 18 i, ne-eqb t 19 j)
 
 word-bad : (j v : ℕ) → not (wordLayout j v) ≡ wordBad j v
 word-bad zero v = not-or (v has 31) (eqb (v % 2 ^ 18) 0) ∙ pad1 _
@@ -169,25 +197,25 @@ module _ (e : List ℕ) (b : Bytes e) where
   none : (i : ℕ) → i < 8 → false ≡ ltb i 0
   none i l = sym (le-ltb i 0 (omega arith))
 
-  abbrev Fourth : ℕ → Type 0
-  Fourth k = not (quietAs k e && allowedAs k e) ≡ (unused k e || bad k e)
+  abbrev Fourth : Words → ℕ → Type 0
+  Fourth w k = not (quietAs k e && allowedAs k (eCan w) e) ≡ (unused k e || bad k w e)
 
-  fourth : (k : ℕ) → not (quietAs k e) ≡ unused k e → not (allowedAs k e) ≡ bad k e → Fourth k
-  fourth k x y = not-and (quietAs k e) (allowedAs k e) ∙ ap₂ _||_ x y
+  fourth : (w : Words) (k : ℕ) → not (quietAs k e) ≡ unused k e → not (allowedAs k (eCan w) e) ≡ bad k w e → Fourth w k
+  fourth w k x y = not-and (quietAs k e) (allowedAs k (eCan w) e) ∙ ap₂ _||_ x y
 
   no-data : (x y z : Bool)
       → not (quiet e x y z 0)
       ≡ (not x && not (target e is 0) || not y && not (word e is 0) || not (byte e 3 is 0) || not z && not (value e is 0) || not (allBelow (λ i. false || byte e (8 + i) is 0) 8))
   no-data x y z = quiet-same x y z 0 (λ i. false) (omega arith) none
 
-  fourths : (k : ℕ) → k < 11 → Fourth k
-  fourths =
-      each Fourth 11
-      ((((((((((((tt, fourth 0 (no-data true false true) (register-bad (target e) (value e) (word-lt e b 4) ∙ pad4 _)), fourth 1 (no-data true true true) (word-bad (word e) (value e) ∙ pad3 _)), fourth 2 (quiet-same true false true _ (usesData 2 e) (data-bytes-le (rtr e) (target e)) (λ i l. refl)) (frame-bad e ∙ pad2 _)), fourth 3 (no-data false false false) refl), fourth 4 (no-data true false false) refl), fourth 5 (no-data false false true) (pad1 _)), fourth 6 (no-data false false false) refl), fourth 7 (no-data false false false) refl), fourth 8 (no-data false false true) (not-leb (value e) 3)), fourth 9 (no-data false false true) (not-leb (value e) 3)), fourth 10 (no-data false false false) refl))
+  fourths : (w : Words) (k : ℕ) → k < 11 → Fourth w k
+  fourths w =
+      each (Fourth w) 11
+      ((((((((((((tt, fourth w 0 (no-data true false true) (register-bad w (target e) (value e) (word-lt e b 4) ∙ pad4 _)), fourth w 1 (no-data true true true) (word-bad (word e) (value e) ∙ pad3 _)), fourth w 2 (quiet-same true false true _ (usesData 2 e) (data-bytes-le (rtr e) (target e)) (λ i l. refl)) (frame-bad e ∙ pad2 _)), fourth w 3 (no-data false false false) refl), fourth w 4 (no-data true false false) refl), fourth w 5 (no-data false false true) (pad1 _)), fourth w 6 (no-data false false false) refl), fourth w 7 (no-data false false false) refl), fourth w 8 (no-data false false true) (not-leb (value e) 3)), fourth w 9 (no-data false false true) (not-leb (value e) 3)), fourth w 10 (no-data false false false) refl))
 
-  -- of a frame
-  pub frame-refused : not (quietAs 2 e && allowedAs 2 e) ≡ (unused 2 e || bad 2 e)
-  frame-refused = fourths 2 (omega arith)
+  -- of a frame, which either controller judges alike
+  pub frame-refused : (w : Words) → not (quietAs 2 e && allowedAs 2 false e) ≡ (unused 2 e || bad 2 w e)
+  frame-refused w = fourths w 2 (omega arith)
 
 -- ---- refusal 2
 
@@ -207,19 +235,31 @@ module _ (e : List ℕ) where
   at-4 true x = refl
   at-4 false x = refl
 
-  unwritable : (a b c : Bool) → not (a && not b && not c) ≡ (not a || b || c)
-  unwritable true true c = refl
-  unwritable true false true = refl
-  unwritable true false false = refl
-  unwritable false b c = refl
+  -- a register that cannot be written: neither 0 to 19, RML and RFP left out, nor an added one
+  register-unknown : (t : ℕ) → not (writable t) ≡ (ltb 19 t && not (added t) || t is 7 || t is 10)
+  register-unknown t = at (added t) refl
+    where
+      unwritable : (a b c : Bool) → not (a && not b && not c) ≡ (not a || b || c)
+      unwritable true true c = refl
+      unwritable true false true = refl
+      unwritable true false false = refl
+      unwritable false b c = refl
+
+      at : (u : Bool) → added t ≡ u → not ((leb t 19 && not (t is 7) && not (t is 10)) || u) ≡ (ltb 19 t && not u || t is 7 || t is 10)
+      at false e =
+          rw (or-false (leb t 19 && not (t is 7) && not (t is 10)), and-true (ltb 19 t))
+          (unwritable (leb t 19) (t is 7) (t is 10) ∙ ap (λ (x : Bool). x || t is 7 || t is 10) (not-leb t 19))
+      at true e =
+          let l = leb-true 64 t (and-l (leb 64 t) (leb t 96) e) in
+          rw (or-true (leb t 19 && not (t is 7) && not (t is 10)), and-false (ltb 19 t), ne-eqb t 7 (λ q. omega arith), ne-eqb t 10 (λ q. omega arith))
 
   abbrev l16 : Bool
   l16 = not (length e is 16)
 
   second-0 : Second 0
   second-0 =
-      ap (λ (x : Bool). l16 || x) (unwritable (leb (target e) 19) (target e is 7) (target e is 10) ∙ ap (λ (x : Bool). x || target e is 7 || target e is 10) (not-leb (target e) 19))
-      ∙ at-0 l16 (ltb 19 (target e) || target e is 7 || target e is 10)
+      ap (λ (x : Bool). l16 || x) (register-unknown (target e))
+      ∙ at-0 l16 (ltb 19 (target e) && not (added (target e)) || target e is 7 || target e is 10)
 
   second-1 : Second 1
   second-1 =
@@ -245,7 +285,7 @@ module _ (s e : List ℕ) (g : GoodImage s) (y : Bytes e) where
   b = blockOf s
 
   abbrev w : Words
-  w = ofBlock b
+  w = ofBlock (words s) b
 
   abbrev Third : ℕ → Type 0
   Third k = (wakefulAs k && Status.asleep b) ≡ asleep k w
@@ -256,29 +296,36 @@ module _ (s e : List ℕ) (g : GoodImage s) (y : Bytes e) where
   abbrev v : ℕ
   v = value e
 
-  turned-bit : (n : ℕ) → bit (bitXor (setBit v 31) (b .md)) n ≡ turned w v n
-  unfolding xor
-  turned-bit n =
-      bit-xor (setBit v 31) (b .md) n
-      ∙ ap (λ (x : Bool). xor x (bit (b .md) n)) (bit-or v (mask 31) n ∙ ap (λ (x : Bool). bit v n || x) (bit-mask 31 n))
-      ∙ at (eqb n 31) refl
+  turned-bit : (n : ℕ) → bit (product.turnedRound b v) n ≡ turned w v n
+  unfolding direction xor
+  turned-bit n = bit-xor (direction b v) (b .md) n ∙ at (Status.ecan b) refl (eqb n 31) refl
     where
-      md31 : bit (b .md) 31 ≡ true
-      md31 = top-up (b .md) (g .block .core .wide .md) (g .block .core .md31)
+      md31 : Status.ecan b ≡ false → bit (b .md) 31 ≡ true
+      md31 p =
+          let l = g .block .core .ranges .profile in
+          let d = eqb-false (b .profile) 1 p in
+          top-up (b .md) (g .block .core .wide .md) (g .block .core .md31 (omega arith))
 
-      at : (t : Bool) → eqb n 31 ≡ t → xor (bit v n || t) (bit (b .md) n) ≡ (not t && xor (bit v n) (bit (b .md) n))
-      at true q = rw (or-true (bit v n), eqb-true n 31 q, md31)
-      at false q = rw (or-false (bit v n))
+      at : (c : Bool) → Status.ecan b ≡ c → (t : Bool) → eqb n 31 ≡ t
+          → xor (bit (cond c v (setBit v 31)) n) (bit (b .md) n) ≡ (not (not c && t) && xor (bit v n) (bit (b .md) n))
+      at true p t q = refl
+      at false p true q =
+          rw (bit-or v (mask 31) n ∙ ap (λ (x : Bool). bit v n || x) (bit-mask 31 n ∙ q) ∙ or-true (bit v n), eqb-true n 31 q, md31 p)
+      at false p false q = rw (bit-or v (mask 31) n ∙ ap (λ (x : Bool). bit v n || x) (bit-mask 31 n ∙ q) ∙ or-false (bit v n))
+
+  trs-fits : b .trs < 2 ^ 32
+  unfolding blockOf wordsOf
+  trs-fits = word-lt s (g .bytes) 520
 
   off-any : not (eqb (bitAnd (b .trs) (without (b .mc) v)) 0) ≡ any (λ n. b .trs has n && (b .mc has n && not (v has n)))
   off-any =
-      any-word _ _ (and-lt-l {a = b .trs} (without (b .mc) v) (omega (arith, g .block .core .low .trs)))
+      any-word _ _ (and-lt-l {a = b .trs} (without (b .mc) v) trs-fits)
       (λ n. bit-and (b .trs) (without (b .mc) v) n ∙ ap (λ (x : Bool). bit (b .trs) n && x) (bit-without (b .mc) v n))
 
-  turn-any : (x : ℕ) → x < 2 ^ 32 → not (eqb (bitAnd x (bitXor (setBit v 31) (b .md))) 0) ≡ any (λ n. x has n && turned w v n)
+  turn-any : (x : ℕ) → x < 2 ^ 32 → not (eqb (bitAnd x (product.turnedRound b v)) 0) ≡ any (λ n. x has n && turned w v n)
   turn-any x h =
-      any-word _ _ (and-lt-l (bitXor (setBit v 31) (b .md)) h)
-      (λ n. bit-and x (bitXor (setBit v 31) (b .md)) n ∙ ap (λ (z : Bool). bit x n && z) (turned-bit n))
+      any-word _ _ (and-lt-l (product.turnedRound b v) h)
+      (λ n. bit-and x (product.turnedRound b v) n ∙ ap (λ (z : Bool). bit x n && z) (turned-bit n))
 
   abbrev Fifth : ℕ → Type 0
   Fifth k = product.busy b (eventAs k e) ≡ busy k w e
@@ -295,22 +342,35 @@ module _ (s e : List ℕ) (g : GoodImage s) (y : Bytes e) where
   unfolding product.busy
   fifths =
       each Fifth 11
-      ((((((((((((tt, two-ways (target e) _ _ _ _ off-any (turn-any (b .trs) (omega (arith, g .block .core .low .trs)))), pad2 _), pad3 _), pad3 _), refl), pad3 _), refl), refl), refl), refl), refl))
+      ((((((((((((tt, two-ways (target e) _ _ _ _ off-any (turn-any (b .trs) trs-fits)), pad2 _), pad3 _), pad3 _), refl), pad3 _), refl), refl), refl), refl), refl))
 
   abbrev Sixth : ℕ → Type 0
   Sixth k = product.locked s (eventAs k e) ≡ locked k w (box s (target e) 0) e
 
-  lock-ways : (t : ℕ) (p q m : Bool) → p ≡ q
-      → cond (eqb t 1) p ((eqb t 17 || eqb t 18) && m) ≡ (eqb t 1 && q || (eqb t 17 || (eqb t 18 || false)) && m || false || false || false)
-  lock-ways t p q m x = at (ℕ-discrete t 1)
+  lock-ways : (t : ℕ) (p q m f : Bool) → p ≡ q → (t ≡ 1 → f ≡ false)
+      → cond (eqb t 1) p (((eqb t 17 || eqb t 18) && m) || f) ≡ (eqb t 1 && q || (eqb t 17 || (eqb t 18 || false)) && m || f || false || false || false)
+  lock-ways t p q m f x z = at (ℕ-discrete t 1)
     where
-      at : Dec (t ≡ 1) → cond (eqb t 1) p ((eqb t 17 || eqb t 18) && m) ≡ (eqb t 1 && q || (eqb t 17 || (eqb t 18 || false)) && m || false || false || false)
-      at (yes e) = rw (e, x) (pad4 q)
+      at : Dec (t ≡ 1) → cond (eqb t 1) p (((eqb t 17 || eqb t 18) && m) || f) ≡ (eqb t 1 && q || (eqb t 17 || (eqb t 18 || false)) && m || f || false || false || false)
+      at (yes e) = rw (e, x, z e) (pad5 q)
       at (no d) = rw (ne-eqb t 1 d, or-false (eqb t 18)) (pad3 _)
+
+  -- MD is no foreign register
+  own-md : (t : ℕ) → t ≡ 1 → foreign w t ≡ false
+  own-md t e = rw e (at (eCan w))
+    where
+      at : (c : Bool) → cond c false false ≡ false
+      at true = refl
+      at false = refl
+
+  foreign-same : (t : ℕ) → product.foreign b t ≡ foreign w t
+  foreign-same t = rw (or-false (eqb t 9))
 
   sixth-0 : Sixth 0
   unfolding product.locked
-  sixth-0 = lock-ways (target e) _ _ _ (turn-any (b .mc) (g .block .core .wide .mc))
+  sixth-0 =
+      ap (λ (f : Bool). cond (target e is 1) (product.meet (b .mc) (product.turnedRound b v)) (((target e is 17 || target e is 18) && not (b .mode is 1)) || f)) (foreign-same (target e))
+      ∙ lock-ways (target e) _ _ _ _ (turn-any (b .mc) (g .block .core .wide .mc)) (own-md (target e))
 
   mode-ways : (a z m c t : Bool) → (c ≡ true → z ≡ false) → not (a || (z || (m && (not c || t)))) ≡ (not a && not z && not m || not a && c && not t)
   mode-ways true z m c t h = refl
@@ -351,7 +411,7 @@ module _ (s e : List ℕ) (g : GoodImage s) (y : Bytes e) where
 
 -- the tests of refusals 2 to 7, in their order
 abbrev pub testsAs : ℕ → Words → ℕ → List ℕ → List Bool
-testsAs op w box0 e = unknown op e ∷ asleep op w ∷ (unused op e || bad op e) ∷ busy op w e ∷ locked op w box0 e ∷ pointless op w ∷ []
+testsAs op w box0 e = unknown op e ∷ asleep op w ∷ (unused op e || bad op w e) ∷ busy op w e ∷ locked op w box0 e ∷ pointless op w ∷ []
 
 abbrev pub tests : List ℕ → List ℕ → List Bool
 tests s e = testsAs (operation e) (words s) (box s (target e) 0) e
@@ -366,20 +426,20 @@ module _ (s e : List ℕ) (bytes : Bytes s) (y : Bytes e) (h : goodImage s ≡ t
       firstFrom 2
       ((not (length e is 16) || not (knownAs k e))
       ∷ (wakefulAs k && Status.asleep (blockOf s))
-      ∷ not (quietAs k e && allowedAs k e)
+      ∷ not (quietAs k e && allowedAs k (Status.ecan (blockOf s)) e)
       ∷ product.busy (blockOf s) (eventAs k e)
       ∷ product.locked s (eventAs k e)
       ∷ product.pointless (blockOf s) (eventAs k e)
       ∷ [])
 
-  chains : (k : ℕ) → Dec (k < 11) → chain k ≡ firstFrom 2 (testsAs k (ofBlock (blockOf s)) (box s (target e) 0) e)
+  chains : (k : ℕ) → Dec (k < 11) → chain k ≡ firstFrom 2 (testsAs k (ofBlock (words s) (blockOf s)) (box s (target e) 0) e)
   chains k (yes l) =
-      rw (seconds e k l, thirds s e gi y k l, fourths e y k l, fifths s e gi y k l, sixths s e gi y k l, sevenths s e gi y k l)
+      rw (seconds e k l, thirds s e gi y k l, fourths e y (ofBlock (words s) (blockOf s)) k l, fifths s e gi y k l, sixths s e gi y k l, sevenths s e gi y k l)
   chains k (no l) = let p = second-past e k (omega arith) in rw (p .0, p .1)
 
   pub same-refusal : firstFrom 2 (tests s e) ≡ product.refusal s e
   unfolding product.refusal
   same-refusal =
-      ap (λ (w : Words). firstFrom 2 (testsAs (operation e) w (box s (target e) 0) e)) (of-block s gi)
+      ap (λ (w : Words). firstFrom 2 (testsAs (operation e) w (box s (target e) 0) e)) (of-block s)
       ∙ sym (chains (operation e) (decLt (operation e) 11))
       ∙ rw h

@@ -16,7 +16,7 @@ use Rattle.sending.specs.Choice.{keyAt, next}
 use Rattle.sending.proofs.Choice.{eligible-bit, next-off, next-is, next-most}
 use Rattle.model.specs.Step.{startedWith}
 use Rattle.model.proofs.Meets.{calm}
-use Rattle.rules.specs.Words.{_has_, box, Only, SLOT}
+use Rattle.rules.specs.Words.{Words, _has_, box, Only, SLOT}
 use Rattle.rules.specs.Sending.{candidate, key, Start}
 use Rattle.rules.proofs.Blocks.{ofBlock, only}
 
@@ -28,7 +28,7 @@ keys w true false = omega arith
 keys w false true = omega arith
 keys w false false = omega arith
 
-module _ (s : List ℕ) where
+module _ (s : List ℕ) (m : Words) where
   abbrev pub b : Block
   b = blockOf s
 
@@ -36,7 +36,7 @@ module _ (s : List ℕ) where
   unfolding keyAt keyOf
   key-same n = keys (box s n 0) (box s n 0 has 31) (box s n 1 has 4)
 
-  pub candidate-same : (n : ℕ) → bit (eligible b) n ≡ candidate (ofBlock b) n
+  pub candidate-same : (n : ℕ) → bit (eligible b) n ≡ candidate (ofBlock m b) n
   candidate-same n = eligible-bit b n
 
   calm-start : (n : ℕ) → risen b (startedWith b n) ≡ startedWith b n
@@ -46,7 +46,7 @@ module _ (s : List ℕ) where
       at true = calm b (started b n) refl (omega arith)
       at false = calm b b refl (omega arith)
 
-  some-chosen : onBus b ≡ true → (n : ℕ) → n < 32 → candidate (ofBlock b) n ≡ true → next s < 32
+  some-chosen : onBus b ≡ true → (n : ℕ) → n < 32 → candidate (ofBlock m b) n ≡ true → next s < 32
   some-chosen h n l c = at (decLt (next s) 32)
     where
       at : Dec (next s < 32) → next s < 32
@@ -55,7 +55,7 @@ module _ (s : List ℕ) where
           let z : next s ≡ 32 = omega (arith, next-most s) in
           absurd (false≢true (sym (next-is s h .nobody z n l) ∙ candidate-same n ∙ c))
 
-  none-chosen : ((n : ℕ) → n < 32 → candidate (ofBlock b) n ≡ false) → next s ≡ 32
+  none-chosen : ((n : ℕ) → n < 32 → candidate (ofBlock m b) n ≡ false) → next s ≡ 32
   none-chosen z = at (onBus b) refl (decLt (next s) 32)
     where
       at : (t : Bool) → onBus b ≡ t → Dec (next s < 32) → next s ≡ 32
@@ -63,28 +63,28 @@ module _ (s : List ℕ) where
       at true h (no q) = omega (arith, next-most s)
       at true h (yes q) = absurd (false≢true (sym (z (next s) q) ∙ sym (candidate-same (next s)) ∙ next-is s h .named q))
 
-  pub start : Start s (ofBlock b) (ofBlock (risen b (startedWith b (next s)))) (next s)
+  pub start : Start s (ofBlock m b) (ofBlock m (risen b (startedWith b (next s)))) (next s)
   start =
       let q = calm-start (next s) in
       record {
         off = next-off s;
         none = none-chosen;
         some = λ h n l c. let k = some-chosen h n l c in (k, sym (candidate-same (next s)) ∙ next-is s h .named k);
-        lowest = λ h m n l c. next-is s h .by-number (some-chosen h n l c) m n l (candidate-same n ∙ c);
+        lowest = λ h o n l c. next-is s h .by-number (some-chosen h n l c) o n l (candidate-same n ∙ c);
         smallest =
-            λ h m n l c.
-            rw (key-same (next s), key-same n) (next-is s h .by-key (some-chosen h n l c) m n l (candidate-same n ∙ c));
+            λ h o n l c.
+            rw (key-same (next s), key-same n) (next-is s h .by-key (some-chosen h n l c) o n l (candidate-same n ∙ c));
         slot = ap (λ (x : Block). x .slot) q ∙ into (ltb (next s) 32);
-        rest = λ k o. ap (λ (x : Block). ofBlock x k) q ∙ rests (next s) k o;
+        rest = λ k o. ap (λ (x : Block). ofBlock m x k) q ∙ rests (next s) k o;
       }
     where
       into : (t : Bool) → cond t (started b (next s)) b .slot ≡ cond t (next s) (b .slot)
       into true = refl
       into false = refl
 
-      rests : (n : ℕ) → Only (SLOT ∷ []) (ofBlock b) (ofBlock (startedWith b n))
+      rests : (n : ℕ) → Only (SLOT ∷ []) (ofBlock m b) (ofBlock m (startedWith b n))
       rests n = at (ltb n 32)
         where
-          at : (t : Bool) → Only (SLOT ∷ []) (ofBlock b) (ofBlock (cond t (started b n) b))
-          at true = only (SLOT ∷ []) b (started b n) refl
+          at : (t : Bool) → Only (SLOT ∷ []) (ofBlock m b) (ofBlock m (cond t (started b n) b))
+          at true = only (SLOT ∷ []) m b (started b n) refl
           at false = λ k o. refl

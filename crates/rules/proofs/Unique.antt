@@ -1,16 +1,19 @@
 -- The rulebook leaves nothing open: two outcomes that meet it coincide.
 use Prim.Native.Nat.{ℕ, _<_, _≤_}
 use mathlib.Core.Path.{_≡_, refl, sym, _∙_}
-use mathlib.Core.Bool.{Bool, true, false, not, _&&_, _||_}
+use mathlib.Core.Bool.{Bool, true, false, not, _&&_, _||_, or-true, or-false}
 use mathlib.Core.List.{List, [], _∷_}
 use mathlib.Core.Logic.{_≢_}
 use native.Mathlib.Decide.{ℕ-discrete, decLt}
 use native.Mathlib.Omega.{arith}
-use borrow.Author.Tests.{ne-eqb}
+use lib.Dec.{leb}
+use borrow.Author.Tests.{leb-true, eqb-false, ne-eqb, not-true}
 use Rattle.bits.specs.Below.{allBelow}
 use Rattle.bits.proofs.Laws.{same-bits}
 use Rattle.bits.proofs.Below.{each-below}
-use Rattle.rules.specs.Words.{Words, _has_, _is_, among, Only, MC, LAM, GAM, CDR, MBIM, GIM, BCR1, BCR2, MBRIF, RMP, RML, RFP, MD, TRS, TRR, TA, AA, MBTIF, GIF, TSC, TEC, REC, MODE, WAITING, SLOT, RECOVERY, TSO}
+use Rattle.bits.proofs.Sets.{and-l, and-r}
+use Rattle.events.specs.Decode.{writable}
+use Rattle.rules.specs.Words.{Words, _has_, _is_, among, Only, MC, LAM, GAM, CDR, MBIM, GIM, BCR1, BCR2, MBRIF, RMP, RML, RFP, MD, TRS, TRR, TA, AA, MBTIF, GIF, TSC, TEC, REC, MODE, WAITING, SLOT, RECOVERY, TSO, PROFILE, added, place}
 use Rattle.rules.specs.Image.{busOff}
 use Rattle.rules.specs.Writing.{Write}
 use Rattle.rules.specs.Sending.{Gif, nothing, Tick, Recessive, Sent, Unsent, ReceiveError, Mode, Ending, taken}
@@ -97,9 +100,9 @@ module _ (was a b : Words) where
   abbrev Same : ℕ → ℕ → Type 0
   Same v t = Write t v was a → Write t v was b → Agree a b
 
-  takes-one : (v t : ℕ) → among t (MC ∷ LAM ∷ GAM ∷ CDR ∷ MBIM ∷ GIM ∷ BCR1 ∷ BCR2 ∷ TSC ∷ []) ≡ true → Same v t
+  takes-one : (v t : ℕ) → (among t (MC ∷ LAM ∷ GAM ∷ CDR ∷ MBIM ∷ GIM ∷ BCR1 ∷ BCR2 ∷ TSC ∷ []) || added t) ≡ true → Same v t
   takes-one v t e p q =
-      by-only (t ∷ []) (p .takes e .1) (q .takes e .1) (p .takes e .0 ∙ sym (q .takes e .0), tt)
+      by-only (place t ∷ []) (p .takes e .1) (q .takes e .1) (p .takes e .0 ∙ sym (q .takes e .0), tt)
 
   clears-one : (v t : ℕ) → among t (TA ∷ AA ∷ MBTIF ∷ MBRIF ∷ GIF ∷ []) ≡ true → Same v t
   clears-one v t e p q =
@@ -125,21 +128,36 @@ module _ (was a b : Words) where
       by-only (TRS ∷ TRR ∷ AA ∷ GIF ∷ []) (p .trr-rest refl) (q .trr-rest refl)
       (flags TRS _ (p .trr-trs refl) (q .trr-trs refl), (flags TRR _ (p .trr refl) (q .trr refl), (flags AA _ (p .trr-aa refl) (q .trr-aa refl), (flags GIF _ (p .trr-gif refl) (q .trr-gif refl), tt))))
 
-  abbrev writable : List ℕ
-  writable =
+  abbrev lows : List ℕ
+  lows =
       MC ∷ LAM ∷ GAM ∷ CDR ∷ MBIM ∷ GIM ∷ BCR1 ∷ BCR2 ∷ TSC ∷ TA ∷ AA ∷ MBTIF ∷ MBRIF ∷ MD ∷ TRS ∷ GIF ∷ RMP ∷ TRR ∷ []
 
-  listed : allBelow (λ t. t is 7 || t is 10 || among t writable) 20 ≡ true
+  listed : allBelow (λ t. t is 7 || t is 10 || among t lows) 20 ≡ true
   unfolding allBelow
   listed = refl
 
-  pub write-one : (v t : ℕ) → t ≤ 19 → t ≢ 7 → t ≢ 10 → Same v t
-  write-one v t h n7 n10 =
-      among-all (Same v) writable
+  low-one : (v t : ℕ) → t ≤ 19 → t ≢ 7 → t ≢ 10 → Same v t
+  low-one v t h n7 n10 =
+      among-all (Same v) lows
       (takes-one v MC refl, (takes-one v LAM refl, (takes-one v GAM refl, (takes-one v CDR refl, (takes-one v MBIM refl, (takes-one v GIM refl, (takes-one v BCR1 refl, (takes-one v BCR2 refl, (takes-one v TSC refl, (clears-one v TA refl, (clears-one v AA refl, (clears-one v MBTIF refl, (clears-one v MBRIF refl, (md-one v, (trs-one v, (clears-one v GIF refl, (rmp-one v, (trr-one v, tt)))))))))))))))))) t
-      (rw (ne-eqb t 7 n7, ne-eqb t 10 n10) at (each-below (λ t. t is 7 || t is 10 || among t writable) 20 listed t (omega arith)))
+      (rw (ne-eqb t 7 n7, ne-eqb t 10 n10) at (each-below (λ t. t is 7 || t is 10 || among t lows) 20 listed t (omega arith)))
 
-pub reset-one : (a b : Words) → FreshWords a → FreshWords b → Agree a b
-reset-one a b p q =
-    by-only (λ k. 0) a b (MD ∷ MODE ∷ WAITING ∷ SLOT ∷ []) (p .rest) (q .rest)
-    (p .md ∙ sym (q .md), (p .mode ∙ sym (q .mode), (p .waiting ∙ sym (q .waiting), (p .slot ∙ sym (q .slot), tt))))
+  pub write-one : (v t : ℕ) → writable t ≡ true → Same v t
+  write-one v t h = at (added t) refl
+    where
+      r : Bool
+      r = among t (MC ∷ LAM ∷ GAM ∷ CDR ∷ MBIM ∷ GIM ∷ BCR1 ∷ BCR2 ∷ TSC ∷ [])
+
+      at : (u : Bool) → added t ≡ u → Same v t
+      at true e = takes-one v t (rw e (or-true r))
+      at false e =
+          let l = rw (e, or-false (leb t 19 && not (t is 7) && not (t is 10))) at h in
+          let x = and-l (leb t 19 && not (t is 7)) (not (t is 10)) l in
+          low-one v t (leb-true t 19 (and-l (leb t 19) (not (t is 7)) x))
+          (eqb-false t 7 (not-true _ (and-r (leb t 19) (not (t is 7)) x)))
+          (eqb-false t 10 (not-true _ (and-r (leb t 19 && not (t is 7)) (not (t is 10)) l)))
+
+pub reset-one : (n : ℕ) (a b : Words) → FreshWords n a → FreshWords n b → Agree a b
+reset-one n a b p q =
+    by-only (λ k. 0) a b (MD ∷ MODE ∷ WAITING ∷ SLOT ∷ PROFILE ∷ []) (p .rest) (q .rest)
+    (p .md ∙ sym (q .md), (p .mode ∙ sym (q .mode), (p .waiting ∙ sym (q .waiting), (p .slot ∙ sym (q .slot), (p .profile ∙ sym (q .profile), tt)))))

@@ -18,8 +18,8 @@ pub record Call (P : Outcome → Type 0) (exit : List ℕ) (answer : ℕ) : Type
   pub image : exit ≡ outcome .image
   pub packs : answer ≡ outcome .refusal + 256 * outcome .mailbox + 65536 * outcome .count
 
-abbrev pub FreshCall : List ℕ → List ℕ → ℕ → Type 0
-FreshCall s exit answer = Call (Fresh s) exit answer
+abbrev pub FreshCall : List ℕ → ℕ → List ℕ → ℕ → Type 0
+FreshCall s p exit answer = Call (Fresh s p) exit answer
 
 abbrev pub StepCall : List ℕ → List ℕ → List ℕ → ℕ → Type 0
 StepCall s e exit answer = Call (Rules s e) exit answer

@@ -26,7 +26,7 @@ pub record Demand1 : Type 0 where
 -- good image stays good. Of the mailboxes a frame can change one only, the one that the search stops at.
 pub record Demand2 : Type 0 where
   pub exactly : (s e : List ℕ) → Bytes s → Bytes e → (x y : List ℕ) (a b : ℕ) → StepCall s e x a → StepCall s e y b → (x ≡ y) × (a ≡ b)
-  pub fresh : (s x : List ℕ) (a : ℕ) → FreshCall s x a → length s ≡ 640 → Good x
+  pub fresh : (s x : List ℕ) (p a : ℕ) → FreshCall s p x a → length s ≡ 776 → p ≤ 1 → Good x
   pub good : (s e x : List ℕ) (a : ℕ) → Bytes s → Bytes e → StepCall s e x a → Good s → Good x
-  pub picked : (s e x : List ℕ) (a : ℕ) → Bytes s → Bytes e → StepCall s e x a → operation e ≡ 2 → (n : ℕ) → First s e n → BoxesStayBut n s x
-  pub nobody : (s e x : List ℕ) (a : ℕ) → Bytes s → Bytes e → StepCall s e x a → operation e ≡ 2 → ((n : ℕ) → First s e n → ⊥) → BoxesStayBut 32 s x
+  pub picked : (s e x : List ℕ) (a : ℕ) → Bytes s → Bytes e → StepCall s e x a → operation e ≡ 2 → (k n : ℕ) → First s e k n → BoxesStayBut n s x
+  pub nobody : (s e x : List ℕ) (a : ℕ) → Bytes s → Bytes e → StepCall s e x a → operation e ≡ 2 → ((k n : ℕ) → First s e k n → ⊥) → BoxesStayBut 32 s x

@@ -1,5 +1,6 @@
--- The rulebook: document 01, and of document 02 the outcome of b) and the DLC of c), as rules over the words, bits and bytes of an image, in
--- its own numbers. Read it in this order: the vocabulary; the sections; the step and the fresh model; what is proved of it all.
+-- The rulebook: document 01, and of document 02 the outcome of b), the DLC of c) and the second controller of g), as rules over the words,
+-- bits and bytes of an image, in its own numbers. Read it in this order: the vocabulary; the sections; the step and the fresh model; what is
+-- proved of it all.
 pub mod Words
 pub mod Image
 pub mod Events

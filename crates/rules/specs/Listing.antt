@@ -60,10 +60,11 @@ wholeText d o n = ascii "step code mailbox count\n" ++ upTo n (λ k. line d k (o
 
 -- ---- the listing
 
--- The run of the events es: a fresh model, then a step for each event, from the image that stood before it. Refused steps count too.
+-- The run of the events es: a fresh CAN-B (document 02, g), then a step for each event, from the image that stood before it. Refused steps
+-- count too.
 pub record Run (es : List (List ℕ)) (text : List ℕ) : Type 0 where
   pub outcome : ℕ → Outcome
-  pub starts : (lent : List ℕ) → length lent ≡ 640 → Fresh lent (outcome 0)
+  pub starts : (lent : List ℕ) → length lent ≡ 776 → Fresh lent 0 (outcome 0)
   pub steps : (n : ℕ) → n < length es → Rules (outcome n .image) (getD es n []) (outcome (n + 1))
   pub decimal : ℕ → List ℕ
   pub numerals : (n : ℕ) → Numeral n (decimal n)

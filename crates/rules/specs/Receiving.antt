@@ -6,7 +6,7 @@ use mathlib.Core.List.{List, [], _∷_}
 use lib.Dec.{ltb, leb}
 use Rattle.bits.specs.Below.{countBelow}
 use Rattle.answers.specs.Answer.{Outcome}
-use Rattle.rules.specs.Words.{_has_, _is_, _has-bits_, Words, words, box, byte, Only, BoxesStayBut, MC, MD, TRS, RMP, RML, LAM, GAM, RFP, MBRIF, MBIM, GIF, TSC, REC, MODE, OPTIONS}
+use Rattle.rules.specs.Words.{_has_, _is_, _has-bits_, Words, words, box, byte, Only, BoxesStayBut, MC, MD, TRS, RMP, RML, LAM, GAM, RFP, MBRIF, MBIM, GIF, TSC, REC, MODE, OPTIONS, MASKS, PROTECTION, eCan}
 use Rattle.rules.specs.Image.{onBus}
 use Rattle.rules.specs.Events.{target, value, rtr, carried, Answers}
 
@@ -19,24 +19,39 @@ compared s e n = words s MC has n && (rtr e || words s MD has n)
 abbrev pub matters : List ℕ → ℕ → Bool
 matters e i = i is 31 || (ltb i 29 && (value e has 31 || leb 18 i))
 
--- Which of them the mask frees: GAM's bits, LAM's for mailbox 31, where bit 30 of word 0 (GAME or LAME) asks for a mask.
+-- The mask of mailbox n: GAM, LAM for mailbox 31; an eCAN has one for each mailbox (document 02, g).
+abbrev pub mask : Words → ℕ → ℕ
+mask w n = cond (eCan w) (w (MASKS + n)) (w (cond (n is 31) LAM GAM))
+
+-- Which of them are freed: those of the mask, where bit 30 of word 0 (GAME, LAME or AME) asks for it.
 abbrev pub freed : List ℕ → ℕ → ℕ → Bool
-freed s n i = box s n 0 has 30 && words s (cond (n is 31) LAM GAM) has i
+freed s n i = box s n 0 has 30 && mask (words s) n has i
 
 -- A match: every compared bit that is not freed is the same.
 abbrev pub Matches : List ℕ → List ℕ → ℕ → Type 0
 Matches s e n = (i : ℕ) → matters e i ≡ true → freed s n i ≡ false → (box s n 0 has i) ≡ (value e has i)
 
--- The search goes from mailbox 0 up to 31, and stops at the first match among the compared ones.
-pub record First (s e : List ℕ) (n : ℕ) : Type 0 where
-  pub there : n < 32
+-- The search goes from mailbox 0 up to 31, in an eCAN from 31 down to 0 (document 02, g): the mailbox at place k of its order.
+abbrev pub seat : Words → ℕ → ℕ
+seat w k = cond (eCan w) (31 - k) k
+
+-- Document 02, g), overwrite protection: does mailbox n pass a matching frame over? Of an eCAN, where it receives, holds a frame and is
+-- protected.
+abbrev pub guarded : Words → ℕ → Bool
+guarded w n = eCan w && (w PROTECTION has n && w RMP has n && w MD has n)
+
+-- It stops at mailbox n, at place k: the first match among the compared ones that does not pass the frame over.
+pub record First (s e : List ℕ) (k n : ℕ) : Type 0 where
+  pub there : k < 32
+  pub seated : seat (words s) k ≡ n
   pub compares : compared s e n ≡ true
   pub matches : Matches s e n
-  pub before : (m : ℕ) → m < n → compared s e m ≡ true → Matches s e m → ⊥
+  pub takes : guarded (words s) n ≡ false
+  pub before : (j : ℕ) → j < k → compared s e (seat (words s) j) ≡ true → Matches s e (seat (words s) j) → guarded (words s) (seat (words s) j) ≡ true
 
--- The count: how many of the mailboxes below n were compared.
+-- The count: how many of the mailboxes before place k were compared, those that passed the frame over included.
 abbrev pub countTo : List ℕ → List ℕ → ℕ → ℕ
-countTo s e n = countBelow (compared s e) n
+countTo s e k = countBelow (λ j. compared s e (seat (words s) j)) k
 
 -- The frame is stored in mailbox n, whose bytes become those of x. Word 0 keeps bits 30 and 29 and takes IDE and the identifier; word 1 is
 -- made of TSC, RTR and the DLC, the number as it came; of the data bytes the first become those that the frame carries, all others stay. RMP
@@ -54,17 +69,18 @@ pub record Stored (s e : List ℕ) (n : ℕ) (was now : Words) (x : List ℕ) : 
   pub gif : now GIF has-bits (λ i. was GIF has i || was RMP has n && i is 5 || rtr e && i is 7)
   pub rest : Only (RML ∷ RMP ∷ MBRIF ∷ RFP ∷ GIF ∷ REC ∷ []) was now
 
--- A frame that is heard: REC falls, from above 127 to 127 and else by one, if it can. The first match takes the frame if it receives. If it
--- transmits it is asked to reply where its RFH (bit 29 of word 0) is up, and else nothing comes of it; the search is over either way.
+-- A frame that is heard: REC falls, from above 127 to 127 and else by one, if it can. The mailbox where the search stops takes the frame if
+-- it receives. If it transmits it is asked to reply where its RFH (bit 29 of word 0) is up, and else nothing comes of it; the search is over
+-- either way.
 pub record Heard (s e : List ℕ) (was now : Words) (o : Outcome) : Type 0 where
   pub rec-falls : was REC ≤ 127 → now REC ≡ was REC - 1
   pub rec-127 : 127 < was REC → now REC ≡ 127
-  pub nobody : ((n : ℕ) → First s e n → ⊥) → Answers 32 (countTo s e 32) o × BoxesStayBut 32 s (o .image) × Only (REC ∷ []) was now
-  pub stored : (n : ℕ) → First s e n → was MD has n ≡ true → Answers n (countTo s e (n + 1)) o × Stored s e n was now (o .image)
-  pub replied : (n : ℕ) → First s e n → was MD has n ≡ false → box s n 0 has 29 ≡ true
-      → Answers n (countTo s e (n + 1)) o × BoxesStayBut 32 s (o .image) × (now TRS has-bits (λ m. was TRS has m || m is n)) × Only (TRS ∷ REC ∷ []) was now
-  pub ignored : (n : ℕ) → First s e n → was MD has n ≡ false → box s n 0 has 29 ≡ false
-      → Answers 32 (countTo s e (n + 1)) o × BoxesStayBut 32 s (o .image) × Only (REC ∷ []) was now
+  pub nobody : ((k n : ℕ) → First s e k n → ⊥) → Answers 32 (countTo s e 32) o × BoxesStayBut 32 s (o .image) × Only (REC ∷ []) was now
+  pub stored : (k n : ℕ) → First s e k n → was MD has n ≡ true → Answers n (countTo s e (k + 1)) o × Stored s e n was now (o .image)
+  pub replied : (k n : ℕ) → First s e k n → was MD has n ≡ false → box s n 0 has 29 ≡ true
+      → Answers n (countTo s e (k + 1)) o × BoxesStayBut 32 s (o .image) × (now TRS has-bits (λ m. was TRS has m || m is n)) × Only (TRS ∷ REC ∷ []) was now
+  pub ignored : (k n : ℕ) → First s e k n → was MD has n ≡ false → box s n 0 has 29 ≡ false
+      → Answers 32 (countTo s e (k + 1)) o × BoxesStayBut 32 s (o .image) × Only (REC ∷ []) was now
 
 -- Does a frame wake the model? It sleeps, and the option WUBA (bit 1) is set.
 abbrev pub rouses : Words → Bool

@@ -6,7 +6,7 @@ use mathlib.Core.Bool.{Bool, true, false, cond, not, _&&_, _||_}
 use mathlib.Core.List.{List, [], _∷_}
 use mathlib.Core.Logic.{_≢_}
 use lib.Dec.{ltb}
-use Rattle.rules.specs.Words.{_has_, _is_, _has-bits_, Words, box, atMost, Only, MC, TRS, TRR, TA, AA, CDR, MBTIF, MBIM, GIF, TSC, TEC, REC, MODE, WAITING, SLOT, RECOVERY, OPTIONS, TSO}
+use Rattle.rules.specs.Words.{_has_, _is_, _has-bits_, Words, box, atMost, Only, MC, TRS, TRR, TA, AA, CDR, MBTIF, MBIM, GIF, TSC, TEC, REC, MODE, WAITING, SLOT, RECOVERY, OPTIONS, TSO, emptySlot}
 use Rattle.rules.specs.Image.{busOff, passive, warning, onBus}
 
 -- GIF after an event that moves a counter or TSC: a bit is up where it was, where the event raises it, and, bits 2, 1 and 0, where bus off,
@@ -48,7 +48,7 @@ pub record Start (s : List ℕ) (was now : Words) (named : ℕ) : Type 0 where
 
 -- Sent: the slot is empty and the request is over, which TA tells, and MBTIF where MBIM asks for it; TEC falls by one if it can.
 pub record Sent (was now : Words) : Type 0 where
-  pub slot : now SLOT ≡ 31
+  pub slot : now SLOT ≡ emptySlot
   pub trs : now TRS has-bits (λ n. was TRS has n && not (n is was SLOT))
   pub trr : now TRR has-bits (λ n. was TRR has n && not (n is was SLOT))
   pub ta : now TA has-bits (λ n. was TA has n || n is was SLOT)
@@ -60,7 +60,7 @@ pub record Sent (was now : Words) : Type 0 where
 -- Not sent: the slot is empty. A request that was cancelled meanwhile is over, which AA and bit 4 of GIF tell; another one stays. TEC
 -- becomes t.
 pub record Unsent (t : ℕ) (was now : Words) : Type 0 where
-  pub slot : now SLOT ≡ 31
+  pub slot : now SLOT ≡ emptySlot
   pub trs : now TRS has-bits (λ n. was TRS has n && not (n is was SLOT && was TRR has n))
   pub trr : now TRR has-bits (λ n. was TRR has n && not (n is was SLOT))
   pub aa : now AA has-bits (λ n. was AA has n || n is was SLOT && was TRR has n)
@@ -99,7 +99,7 @@ pub record Mode (asked : ℕ) (was now : Words) : Type 0 where
 
 -- At the end of a step: is a mode waiting, and may it be taken? With an empty slot, and not in bus off.
 abbrev pub taken : Words → Bool
-taken w = not (w WAITING is 4) && (w SLOT is 31 && ltb (w TEC) 256)
+taken w = not (w WAITING is 4) && (w SLOT is emptySlot && ltb (w TEC) 256)
 
 -- Then it is the mode, and none waits. Falling asleep clears both counters and all requests; waking, to normal from sleep, sets bit 6 of
 -- GIF. Here `was` are the words that the event itself left, `now` those in the image.

@@ -1,11 +1,11 @@
 -- The rulebook together: what one event leaves, and what a call answers.
-use Prim.Native.Nat.{ℕ, _+_, _*_, _%_, _<_}
+use Prim.Native.Nat.{ℕ, _+_, _*_, _%_, _<_, _≤_}
 use mathlib.Core.Path.{_≡_}
 use mathlib.Core.List.{List, [], _∷_}
 use mathlib.Core.Logic.{_≢_}
 use lib.ListN.{length}
 use Rattle.answers.specs.Answer.{Outcome}
-use Rattle.rules.specs.Words.{Words, words, byte, box, atMost, Only, BoxesStayBut, TSC, TEC, SLOT, OPTIONS}
+use Rattle.rules.specs.Words.{Words, words, byte, box, atMost, Only, BoxesStayBut, TSC, TEC, SLOT, OPTIONS, PROFILE}
 use Rattle.rules.specs.Events.{operation, target, word, value, Applies, FirstRefusal, Answers}
 use Rattle.rules.specs.Writing.{Write, BoxWrite}
 use Rattle.rules.specs.Receiving.{Frame}
@@ -40,15 +40,15 @@ pub record Does (s e : List ℕ) (was now : Words) (o : Outcome) : Type 0 where
   pub tick : operation e ≡ 7 → Tick was now × Quiet s o
   pub mode : operation e ≡ 8 → Mode (value e) was now × Quiet s o
   pub options : operation e ≡ 9 → (now OPTIONS ≡ value e) × Only (OPTIONS ∷ []) was now × Quiet s o
-  pub reset : operation e ≡ 10 → FreshWords now × Quiet s o
+  pub reset : operation e ≡ 10 → FreshWords (was PROFILE) now × Quiet s o
 
--- An accepted event: what it does itself, then a waiting mode; what is left is 640 bytes again.
+-- An accepted event: what it does itself, then a waiting mode; what is left is 776 bytes again.
 pub record Accepted (s e : List ℕ) (o : Outcome) : Type 0 where
   pub middle : Words
   pub does : Does s e (words s) middle o
   pub ending : Ending middle (words (o .image))
   pub refusal : o .refusal ≡ 0
-  pub size : (length (o .image) ≡ 640) × ((i : ℕ) → byte (o .image) i < 256)
+  pub size : (length (o .image) ≡ 776) × ((i : ℕ) → byte (o .image) i < 256)
 
 -- The refusals: each answers its number with mailbox 32 and count 0; the image is as it came.
 abbrev pub Refused : List ℕ → ℕ → Outcome → Type 0
@@ -59,10 +59,12 @@ pub record Rules (s e : List ℕ) (o : Outcome) : Type 0 where
   pub refuses : (r : ℕ) → FirstRefusal s e r → Refused s r o
   pub accepts : ((r : ℕ) → Applies s e r → ⊥) → Accepted s e o
 
--- The image, fresh: 640 bytes become the fresh image, whatever they were. Another length is refused.
-pub record Fresh (s : List ℕ) (o : Outcome) : Type 0 where
-  pub other : length s ≢ 640 → Refused s 1 o
-  pub registers : length s ≡ 640 → FreshWords (words (o .image))
-  pub boxes : length s ≡ 640 → (i : ℕ) → i < 512 → byte (o .image) i ≡ 0
-  pub answers : length s ≡ 640 → (o .refusal ≡ 0) × Answers 32 0 o
-  pub size : length s ≡ 640 → (length (o .image) ≡ 640) × ((i : ℕ) → byte (o .image) i < 256)
+-- The image, fresh: 776 bytes become the fresh image of profile p, whatever they were. Another length is refused, then another profile than
+-- 0 and 1 (document 02, g).
+pub record Fresh (s : List ℕ) (p : ℕ) (o : Outcome) : Type 0 where
+  pub other : length s ≢ 776 → Refused s 1 o
+  pub unknown : length s ≡ 776 → 1 < p → Refused s 4 o
+  pub registers : length s ≡ 776 → p ≤ 1 → FreshWords p (words (o .image))
+  pub boxes : length s ≡ 776 → p ≤ 1 → (i : ℕ) → i < 512 → byte (o .image) i ≡ 0
+  pub answers : length s ≡ 776 → p ≤ 1 → (o .refusal ≡ 0) × Answers 32 0 o
+  pub size : length s ≡ 776 → p ≤ 1 → (length (o .image) ≡ 776) × ((i : ℕ) → byte (o .image) i < 256)

@@ -1,12 +1,12 @@
 -- The vocabulary of the rulebook: bytes, words, bits; the register words by name; what stays. Of the product's other definitions the
 -- rulebook takes the bit of a word, the word at a place in bytes, "all" and "how many" below a bound, and what an outcome and a reading
 -- are made of.
-use Prim.Native.Nat.{ℕ, _+_, _*_, _<_, _≤_}
+use Prim.Native.Nat.{ℕ, _+_, _-_, _*_, _<_, _≤_}
 use mathlib.Core.Path.{_≡_}
-use mathlib.Core.Bool.{Bool, false, cond, not, _||_}
+use mathlib.Core.Bool.{Bool, false, cond, not, _&&_, _||_}
 use mathlib.Core.List.{List, [], _∷_}
 use mathlib.Core.Logic.{_⊎_}
-use lib.Dec.{eqb, ltb}
+use lib.Dec.{eqb, ltb, leb}
 use lib.ListN.{getD}
 use Rattle.bits.specs.Bit.{bit}
 use Rattle.bits.specs.Below.{allBelow}
@@ -136,6 +136,39 @@ OPTIONS = 26
 
 abbrev pub TSO : ℕ
 TSO = 27
+
+-- Document 02, g): behind them, in the same count, the mask of each mailbox, that of mailbox n at MASKS + n; the protection word; the profile.
+abbrev pub MASKS : ℕ
+MASKS = 32
+
+abbrev pub PROTECTION : ℕ
+PROTECTION = 64
+
+abbrev pub PROFILE : ℕ
+PROFILE = 65
+
+-- Document 02, g): the profile says which controller it is: 0 the CAN-B, 1 the eCAN.
+abbrev pub eCan : Words → Bool
+eCan w = w PROFILE is 1
+
+-- Document 02, g): the slot where no mailbox is being sent.
+abbrev pub emptySlot : ℕ
+emptySlot = 32
+
+-- Document 02, g): mailbox 31 of a CAN-B only receives; every other mailbox can do both.
+abbrev pub onlyReceives : Words → ℕ → Bool
+onlyReceives w n = not (eCan w) && n is 31
+
+-- Document 02, g): the registers 64 to 96, which are the masks and the protection word; and which word is that of register t.
+abbrev pub added : ℕ → Bool
+added t = leb 64 t && leb t 96
+
+abbrev pub place : ℕ → ℕ
+place t = cond (leb 64 t) (t - 32) t
+
+-- Document 02, g): is register t a mask? LAM and GAM are, and those of the mailboxes.
+abbrev pub isMask : ℕ → Bool
+isMask t = among t (LAM ∷ GAM ∷ []) || leb 64 t && leb t 95
 
 -- Between the words that were and those that are now, only the listed ones may differ: all others stay.
 abbrev pub Only : List ℕ → Words → Words → Type 0

@@ -3,16 +3,17 @@ use Prim.Native.Nat.{ℕ, _<_}
 use mathlib.Core.Path.{_≡_}
 use mathlib.Core.Bool.{Bool, true, false, cond, not, _&&_, _||_}
 use mathlib.Core.List.{List, [], _∷_}
-use Rattle.rules.specs.Words.{_has_, _is_, _has-bits_, Words, box, among, any, Only, BoxesStayBut, MC, MD, TRS, TRR, TA, AA, RMP, RML, LAM, GAM, RFP, CDR, MBTIF, MBRIF, MBIM, GIF, GIM, BCR1, BCR2, TSC, SLOT, TSO}
+use Rattle.rules.specs.Words.{_has_, _is_, _has-bits_, Words, box, among, any, Only, BoxesStayBut, MC, MD, TRS, TRR, TA, AA, RMP, RML, LAM, GAM, RFP, CDR, MBTIF, MBRIF, MBIM, GIF, GIM, BCR1, BCR2, TSC, SLOT, TSO, onlyReceives, added, place}
 
 -- Writing, TRR: does the request of mailbox n end at once? It is asked to, it is there, and it is not being sent.
 abbrev pub ends : Words → ℕ → ℕ → Bool
 ends was v n = v has n && was TRS has n && not (n is was SLOT)
 
 pub record Write (t v : ℕ) (was now : Words) : Type 0 where
-  -- nine registers take the value; so does MD, whose bit 31 stays up
-  pub takes : among t (MC ∷ LAM ∷ GAM ∷ CDR ∷ MBIM ∷ GIM ∷ BCR1 ∷ BCR2 ∷ TSC ∷ []) ≡ true → (now t ≡ v) × Only (t ∷ []) was now
-  pub md : t ≡ MD → (now MD has-bits (λ n. v has n || n is 31)) × Only (MD ∷ []) was now
+  -- nine registers and the added ones take the value; so does MD, but what only receives goes on receiving
+  pub takes : (among t (MC ∷ LAM ∷ GAM ∷ CDR ∷ MBIM ∷ GIM ∷ BCR1 ∷ BCR2 ∷ TSC ∷ []) || added t) ≡ true
+      → (now (place t) ≡ v) × Only (place t ∷ []) was now
+  pub md : t ≡ MD → (now MD has-bits (λ n. v has n || onlyReceives was n)) × Only (MD ∷ []) was now
   -- TRS: a 1 asks transmit mailboxes to send, and does nothing elsewhere
   pub trs : t ≡ TRS → (now TRS has-bits (λ n. was TRS has n || v has n && not (was MD has n))) × Only (TRS ∷ []) was now
   -- five registers lose the bits of the value; with bit 3 of GIF goes TSO

@@ -9,6 +9,7 @@ use lib.Dec.{eqb}
 use lib.ListN.{length, length-append}
 use borrow.Author.Tests.{eqb-true, eqb-false, ne-eqb}
 use Rattle.words.proofs.Bytes.{Bytes, bytes-nil, bytes-cons, bytes-tail, bytes-append}
+use Rattle.registers.specs.Block.{canB}
 use Rattle.fresh.specs.Fresh.{freshImage}
 use Rattle.trace.specs.Trace.{countAt, takes, wellFormed, lines, header, refusedLine}
 use Rattle.rules.specs.Listing.{counted, Section}
@@ -181,6 +182,6 @@ refusal f b h =
     let t = story opened (omega arith) f in
     let n : fed opened f .section ≢ behind = λ e. false≢true (sym h ∙ read-back f b e) in
     record {
-      text = ap (λ (u : List ℕ). header ++ u) (rw (t .text-is) (closes f n (isOver (fed opened f)) refl (lines 1 freshImage (complete opened f))));
+      text = ap (λ (u : List ℕ). header ++ u) (rw (t .text-is) (closes f n (isOver (fed opened f)) refl (lines 1 (freshImage canB) (complete opened f))));
       image = t .image-is;
     }

@@ -112,32 +112,32 @@ module _ (t : List ℕ) (r : Reader) (h : r ≡ readerOf t) where
 -- ---- image and state
 
 module _ (s t : List ℕ) where
-  pub other-image : length s ≢ 640 → 1 ≡ against s t
+  pub other-image : length s ≢ 776 → 1 ≡ against s t
   unfolding against
-  other-image h = rw (ne-eqb (length s) 640 h)
+  other-image h = rw (ne-eqb (length s) 776 h)
 
-  module _ (h : length s ≡ 640) where
+  module _ (h : length s ≡ 776) where
     pub other-state : length t ≢ 32 → 1 ≡ against s t
     unfolding against
-    other-state i = rw (eq-eqb (length s) 640 h, ne-eqb (length t) 32 i)
+    other-state i = rw (eq-eqb (length s) 776 h, ne-eqb (length t) 32 i)
 
     module _ (i : length t ≡ 32) where
       pub over-already : wordAt t 0 ≡ over → 8 ≡ against s t
       unfolding against
-      over-already o = rw (eq-eqb (length s) 640 h, eq-eqb (length t) 32 i, eq-eqb (wordAt t 0) over o)
+      over-already o = rw (eq-eqb (length s) 776 h, eq-eqb (length t) 32 i, eq-eqb (wordAt t 0) over o)
 
       module _ (o : wordAt t 0 ≢ over) where
         pub not-left : ready t ≡ false → 1 ≡ against s t
         unfolding against
-        not-left r = rw (eq-eqb (length s) 640 h, eq-eqb (length t) 32 i, ne-eqb (wordAt t 0) over o, r)
+        not-left r = rw (eq-eqb (length s) 776 h, eq-eqb (length t) 32 i, ne-eqb (wordAt t 0) over o, r)
 
         pub nothing-against : ready t ≡ true → 0 ≡ against s t
         unfolding against
-        nothing-against r = rw (eq-eqb (length s) 640 h, eq-eqb (length t) 32 i, ne-eqb (wordAt t 0) over o, r)
+        nothing-against r = rw (eq-eqb (length s) 776 h, eq-eqb (length t) 32 i, ne-eqb (wordAt t 0) over o, r)
 
 -- what holds where nothing stands against a call
 pub record Taken (s t : List ℕ) : Type 0 where
-  pub image : length s ≡ 640
+  pub image : length s ≡ 776
   pub state : length t ≡ 32
   pub going : wordAt t 0 ≢ over
   pub left : ready t ≡ true
@@ -145,14 +145,14 @@ pub record Taken (s t : List ℕ) : Type 0 where
 -- nothing stands against a call; the stream is over; or a length or the state is none
 pub data Stands (s t : List ℕ) : ℕ → Type 0 where
   free : Taken s t → Stands s t 0
-  past : length s ≡ 640 → length t ≡ 32 → wordAt t 0 ≡ over → Stands s t 8
+  past : length s ≡ 776 → length t ≡ 32 → wordAt t 0 ≡ over → Stands s t 8
   unfit : Stands s t 1
 
 pub stands : (s t : List ℕ) → Stands s t (against s t)
 unfolding against
-stands s t = to (eqb (length s) 640) refl (eqb (length t) 32) refl (eqb (wordAt t 0) over) refl (ready t) refl
+stands s t = to (eqb (length s) 776) refl (eqb (length t) 32) refl (eqb (wordAt t 0) over) refl (ready t) refl
   where
-    to : (a : Bool) → eqb (length s) 640 ≡ a → (b : Bool) → eqb (length t) 32 ≡ b → (c : Bool) → eqb (wordAt t 0) over ≡ c → (d : Bool) → ready t ≡ d
+    to : (a : Bool) → eqb (length s) 776 ≡ a → (b : Bool) → eqb (length t) 32 ≡ b → (c : Bool) → eqb (wordAt t 0) over ≡ c → (d : Bool) → ready t ≡ d
         → Stands s t (cond (a && b) (cond c 8 (cond d 0 1)) 1)
     to false p b q c r d u = unfit
     to true p false q c r d u = unfit

@@ -10,6 +10,7 @@ use lib.ListN.{length, take, drop}
 use borrow.Author.Tests.{eqb-true, eq-eqb, ne-eqb, lt-ltb, le-ltb, leb-true, leb-false}
 use Rattle.words.proofs.Bytes.{Bytes}
 use Rattle.answers.specs.Answer.{noMailbox, packed, Promise}
+use Rattle.registers.specs.Block.{canB}
 use Rattle.fresh.specs.Fresh.{fresh}
 use Rattle.texts.specs.Text.{Put}
 use Rattle.texts.proofs.Writing.{at-front, front-of}
@@ -73,22 +74,22 @@ module _ (s t o : List ℕ) (c : Call) (r : ℕ) where
 
 module _ (s t o : List ℕ) where
   -- an image or a state of another length
-  pub other-length : {a : ℕ} → (length s ≡ 640 → length t ≡ 32 → ⊥) → a ≡ packed 1 noMailbox 0 → Leaves (opening s t o) s t o a
+  pub other-length : {a : ℕ} → (length s ≡ 776 → length t ≡ 32 → ⊥) → a ≡ packed 1 noMailbox 0 → Leaves (opening s t o) s t o a
   unfolding opening
-  other-length {a} h p = to (eqb (length s) 640) refl (eqb (length t) 32) refl
+  other-length {a} h p = to (eqb (length s) 776) refl (eqb (length t) 32) refl
     where
-      to : (b : Bool) → eqb (length s) 640 ≡ b → (d : Bool) → eqb (length t) 32 ≡ d → Leaves (unless (cond (b && d) 0 1) s t o (prints s t o opened header 0)) s t o a
+      to : (b : Bool) → eqb (length s) 776 ≡ b → (d : Bool) → eqb (length t) 32 ≡ d → Leaves (unless (cond (b && d) 0 1) s t o (prints s t o opened header 0)) s t o a
       to true e true f = absurd (h (eqb-true _ _ e) (eqb-true _ _ f))
       to true e false f = stopped s t o (prints s t o opened header 0) 1 refl (λ z. omega arith) p
       to false e d f = stopped s t o (prints s t o opened header 0) 1 refl (λ z. omega arith) p
 
-  pub opens : length s ≡ 640 → length t ≡ 32 → {x y z : List ℕ} {a : ℕ} → Leaves (prints s t o opened header 0) x y z a → Leaves (opening s t o) x y z a
+  pub opens : length s ≡ 776 → length t ≡ 32 → {x y z : List ℕ} {a : ℕ} → Leaves (prints s t o opened header 0) x y z a → Leaves (opening s t o) x y z a
   unfolding opening
-  opens h k l = rw (eq-eqb (length s) 640 h, eq-eqb (length t) 32 k) (goes-on s t o (prints s t o opened header 0) 0 refl l)
+  opens h k l = rw (eq-eqb (length s) 776 h, eq-eqb (length t) 32 k) (goes-on s t o (prints s t o opened header 0) 0 refl l)
 
-  pub fresh-there : length s ≡ 640 → {x : List ℕ} {a : ℕ} → Promise (fresh s) x a → x ≡ opened .image
+  pub fresh-there : length s ≡ 776 → {x : List ℕ} {a : ℕ} → Promise (fresh s canB) x a → x ≡ opened .image
   unfolding fresh
-  fresh-there h p = rw (eq-eqb (length s) 640 h) at (p .image)
+  fresh-there h p = rw (eq-eqb (length s) 776 h) at (p .image)
 
 -- the state of a reader that has gathered nothing
 pub nothing-gathered : (k : ℕ) (e s : List ℕ) → stateOf (standingBy (record { section = k; left = 0; steps = 0; seen = 0 }) e []) ≡ stateOf (at k 0 0 [] s)

@@ -9,6 +9,7 @@ use lib.Dec.{eqb}
 use lib.ListN.{length}
 use borrow.Author.Tests.{eqb-true, eqb-false, ne-eqb}
 use Rattle.words.proofs.Bytes.{Bytes, bytes-nil, bytes-cons, bytes-append}
+use Rattle.registers.specs.Block.{canB}
 use Rattle.fresh.specs.Fresh.{freshImage}
 use Rattle.stream.specs.Stream.{Standing, at, behind, over, isOver, opened, fed}
 use Rattle.stream.specs.Calls.{stateOf, standing, ready}
@@ -49,7 +50,7 @@ into k l e n h i m c =
 -- before the first count; before a later one, with n events in front of it: as many as can be in the section right before it
 start : Comes 1 0 0 []
 unfolding fed
-start = record { file = []; small = bytes-nil; image = freshImage; there = refl }
+start = record { file = []; small = bytes-nil; image = freshImage canB; there = refl }
 
 next : (j n : ℕ) → suc j ≤ 3 → n ≤ 1000 * suc j → Comes (j + 1) 0 (n - 1000) [] → Comes (suc j + 1) 0 n []
 next j n h m c =

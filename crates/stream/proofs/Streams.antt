@@ -6,13 +6,14 @@ use mathlib.Core.Bool.{Bool, true, false, cond, not, false≢true}
 use mathlib.Core.List.{List, [], _∷_, _++_, append-assoc, append-nil, flatMap}
 use mathlib.Core.Logic.{_≢_}
 use native.Mathlib.Omega.{arith}
-use lib.Dec.{eqb, ltb}
+use lib.Dec.{eqb, ltb, lit≤}
 use lib.ListN.{length, take, drop}
 use lib.Seq.{take-append-seam}
 use borrow.Author.Tests.{eq-eqb, ne-eqb, eqb-true, eqb-false, ltb-true, ltb-false, not-true}
 use Rattle.bits.proofs.Sets.{and-l, and-r}
 use Rattle.words.specs.Word.{wordAt}
 use Rattle.words.proofs.Bytes.{Bytes, bytes-take}
+use Rattle.registers.specs.Block.{canB}
 use Rattle.fresh.proofs.Good.{fresh-facts}
 use Rattle.model.specs.Step.{step}
 use Rattle.model.proofs.Lengths.{step-length}
@@ -60,9 +61,9 @@ neither false m n h k = k
 
 -- ---- what stands against a call
 
-module _ (s t : List ℕ) (h : length s ≡ 640) (k : length t ≡ 32) where
+module _ (s t : List ℕ) (h : length s ≡ 776) (k : length t ≡ 32) where
   lengths-hold : lengths s t ≡ true
-  lengths-hold = rw (eq-eqb (length s) 640 h, eq-eqb (length t) 32 k)
+  lengths-hold = rw (eq-eqb (length s) 776 h, eq-eqb (length t) 32 k)
 
   opening-is : (o : List ℕ) → opening s t o ≡ prints s t o opened header 0
   unfolding opening
@@ -176,7 +177,7 @@ fed-length σ d l = to (isOver σ) refl
         ap length (story σ (omega (arith, d .last)) l .image-is) ∙ after-length (σ .image) (complete σ l)
 
 -- what stands against a call where a stream stands
-module _ (σ : Standing) (d : Ready σ) (l : length (σ .image) ≡ 640) where
+module _ (σ : Standing) (d : Ready σ) (l : length (σ .image) ≡ 776) where
   over-against : σ .section ≡ over → against (σ .image) (stateOf σ) ≡ 8
   over-against h = sym (over-already (σ .image) (stateOf σ) l (length-state σ d) (section-back σ d ∙ h))
 
@@ -194,7 +195,7 @@ module _ (s t p o : List ℕ) (small : Bytes t) (b : Bytes p) (h : feeding s t p
   abbrev σ : Standing
   σ = standing s t
 
-  fault-over : isOver (fed σ p) ≡ true → Ready σ → length s ≡ 640 → Over (fed σ p .image) (stateOf (fed σ p))
+  fault-over : isOver (fed σ p) ≡ true → Ready σ → length s ≡ 776 → Over (fed σ p .image) (stateOf (fed σ p))
   unfolding standing
   fault-over e d l = stands-over (fed σ p) (fed-ready σ d p b) (fed-length σ d p ∙ l) (eqb-true _ _ e)
 
@@ -243,7 +244,7 @@ finished = record { fed = fed-finished; closed = close-finished }
 wrote : (h : Held) (u o : List ℕ) → h .text ++ take (length u) (u ++ drop (length u) o) ≡ h .text ++ u
 wrote h u o = ap (λ (x : List ℕ). h .text ++ x) (take-append-seam u (drop (length u) o))
 
-begins : (s t o : List ℕ) → length s ≡ 640 → length t ≡ 32 → opening s t o .refusal ≢ 9 → Stands [] (begun s t o)
+begins : (s t o : List ℕ) → length s ≡ 776 → length t ≡ 32 → opening s t o .refusal ≢ 9 → Stands [] (begun s t o)
 unfolding fed printed
 begins s t o h k n =
     let p = prints s t o opened header 0 in
@@ -263,8 +264,8 @@ module _ (f : List ℕ) (b : Bytes f) where
   τ-ready : Ready τ
   τ-ready = fed-ready opened opened-ready f b
 
-  τ-length : length (τ .image) ≡ 640
-  τ-length = fed-length opened opened-ready f ∙ fresh-facts .size
+  τ-length : length (τ .image) ≡ 776
+  τ-length = fed-length opened opened-ready f ∙ fresh-facts canB (lit≤ tt) .size
 
   τ-back : standing (τ .image) (stateOf τ) ≡ τ
   τ-back = standing-back τ τ-ready

@@ -7,6 +7,7 @@ use native.Mathlib.Omega.{arith}
 use lib.ListN.{length, getD, length-append}
 use borrow.Author.Tests.{eq-eqb, ne-eqb, lt-ltb, le-ltb}
 use Rattle.words.proofs.Bytes.{Bytes, bytes-append}
+use Rattle.registers.specs.Block.{canB}
 use Rattle.fresh.specs.Fresh.{freshImage}
 use Rattle.model.specs.Step.{step}
 use Rattle.trace.specs.Trace.{countAt, takes, wellFormed, events, lines, imageAfter, run, listing}
@@ -137,11 +138,11 @@ module _ (k : ℕ) (inside : k ≤ 3) where
 -- a trace leads behind the third section, and completes its events
 trace-leads : {f : List ℕ} {a b c : List (List ℕ)} → Trace f a b c → (fed opened f .section ≡ behind) × (complete opened f ≡ a ++ (b ++ c))
 trace-leads {f} {a} {b} {c} t =
-    let u = imageAfter freshImage a in
+    let u = imageAfter (freshImage canB) a in
     let x : Section (takes 1) a =
     record { most = t .first .most; sizes = t .first .sizes; placed = λ n h. or-false _ ∙ t .first .placed n h } in
     let l =
-    then (whole-section 1 (omega arith) 0 freshImage a x)
+    then (whole-section 1 (omega arith) 0 (freshImage canB) a x)
     (then (whole-section 2 (omega arith) (0 + length a) u b (t .second))
     (whole-section 3 (omega arith) (0 + length a + length b) (imageAfter u b) c (t .third))) in
     (ap (λ (p : List ℕ). fed opened p .section) (t .whole) ∙ ap (λ (σ : Standing). σ .section) (l .to), ap (complete opened) (t .whole) ∙ l .done)
@@ -160,11 +161,11 @@ agreement f small h =
     let going = ne-eqb (fed opened f .section) over (λ e. omega (arith, r .0)) in
     let n : fed opened f .steps ≡ length (events f) = omega (arith, t .steps-are going, ap length (r .1)) in
     let text : transcript f ≡ listing f =
-    rw (h, t .text-is, going, eq-eqb (fed opened f .section) behind (r .0), n, r .1, append-nil (lines 1 freshImage (events f))) in
+    rw (h, t .text-is, going, eq-eqb (fed opened f .section) behind (r .0), n, r .1, append-nil (lines 1 (freshImage canB) (events f))) in
     record {
       text = text;
       rule = exact .listing-exact f small (transcript f) .1 text;
-      image = t .image-is ∙ ap (imageAfter freshImage) (r .1);
+      image = t .image-is ∙ ap (imageAfter (freshImage canB)) (r .1);
     }
 
 pub completes : Completes

@@ -8,6 +8,7 @@ use mathlib.Core.Logic.{_≢_, _↔_}
 use lib.Dec.{eqb}
 use lib.ListN.{length, take}
 use Rattle.words.specs.Bytes.{Bytes}
+use Rattle.registers.specs.Block.{canB}
 use Rattle.fresh.specs.Fresh.{freshImage}
 use Rattle.trace.specs.Trace.{wellFormed, events, lines, imageAfter, header, refusedLine, listing}
 use Rattle.rules.specs.Listing.{Listing}
@@ -21,7 +22,7 @@ use Rattle.stream.specs.Calls.{stateOf, standing, known, ready, Call, re
 pub record Agrees (f : List ℕ) : Type 0 where
   pub text : transcript f ≡ listing f
   pub rule : Listing f (transcript f)
-  pub image : fed opened f .image ≡ imageAfter freshImage (events f)
+  pub image : fed opened f .image ≡ imageAfter (freshImage canB) (events f)
 
 abbrev pub Agreement : Type 0
 Agreement = (f : List ℕ) → Bytes f → wellFormed f ≡ true → Agrees f
@@ -29,8 +30,8 @@ Agreement = (f : List ℕ) → Bytes f → wellFormed f ≡ true → Agrees f
 -- Over a slow cable: of any other the text is the header, the lines of the events that are complete before the fault, and the refusal line; the
 -- image is what those events leave.
 pub record Breaks (f : List ℕ) : Type 0 where
-  pub text : transcript f ≡ header ++ (lines 1 freshImage (complete opened f) ++ refusedLine)
-  pub image : fed opened f .image ≡ imageAfter freshImage (complete opened f)
+  pub text : transcript f ≡ header ++ (lines 1 (freshImage canB) (complete opened f) ++ refusedLine)
+  pub image : fed opened f .image ≡ imageAfter (freshImage canB) (complete opened f)
 
 abbrev pub Refusal : Type 0
 Refusal = (f : List ℕ) → Bytes f → wellFormed f ≡ false → Breaks f
@@ -121,7 +122,7 @@ pub record Stands (f : List ℕ) (h : Held) : Type 0 where
 
 abbrev pub Feeding : Type 0
 Feeding =
-    (s t o : List ℕ) (l : List Part) → length s ≡ 640 → length t ≡ 32 → Bytes (file l) → opening s t o .refusal ≢ 9
+    (s t o : List ℕ) (l : List Part) → length s ≡ 776 → length t ≡ 32 → Bytes (file l) → opening s t o .refusal ≢ 9
     → roomy (begun s t o) l ≡ true → Stands (file l) (afterParts (begun s t o) l)
 
 -- Over a slow cable: however a file is cut, and whatever bytes are lent, as long as they are enough: the texts together, the last image and the last
@@ -133,7 +134,7 @@ pub record Ends (f : List ℕ) (h : Held) : Type 0 where
 
 abbrev pub Cutting : Type 0
 Cutting =
-    (s t o : List ℕ) (l : List Part) (e : List ℕ) → length s ≡ 640 → length t ≡ 32 → Bytes (file l) → opening s t o .refusal ≢ 9
+    (s t o : List ℕ) (l : List Part) (e : List ℕ) → length s ≡ 776 → length t ≡ 32 → Bytes (file l) → opening s t o .refusal ≢ 9
     → roomy (begun s t o) l ≡ true → lastOf (afterParts (begun s t o) l) e .refusal ≢ 9
     → Ends (file l) (after (afterParts (begun s t o) l) (lastOf (afterParts (begun s t o) l) e))
 
@@ -145,7 +146,7 @@ pub record Nine (s t o text : List ℕ) (c : Call) : Type 0 where
 -- Over a slow cable: so with each call that nothing else stands against. Enough for any text are 31 bytes more than the part has, 39,016 for a part of
 -- any length, and 16 for a closing. A part without bytes changes nothing.
 pub record Rooms : Type 0 where
-  pub opens : (s t o : List ℕ) → length s ≡ 640 → length t ≡ 32 → Nine s t o header (opening s t o)
+  pub opens : (s t o : List ℕ) → length s ≡ 776 → length t ≡ 32 → Nine s t o header (opening s t o)
   pub feeds : (s t p o : List ℕ) → against s t ≡ 0 → Nine s t o (printed (standing s t) p) (feeding s t p o)
   pub closes : (s t o : List ℕ) → against s t ≡ 0 → Nine s t o (lastLine (standing s t)) (closing s t o)
   pub enough : (s t p o : List ℕ) → Bytes t → Bytes p → length p + 31 ≤ length o → feeding s t p o .refusal ≢ 9

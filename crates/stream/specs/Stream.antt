@@ -7,6 +7,7 @@ use mathlib.Core.List.{List, [], _∷_, _++_}
 use lib.Dec.{eqb, ltb}
 use lib.ListN.{length, getD}
 use Rattle.events.specs.Parts.{eventBytes}
+use Rattle.registers.specs.Block.{canB}
 use Rattle.fresh.specs.Fresh.{freshImage}
 use Rattle.model.specs.Step.{step}
 use Rattle.trace.specs.Trace.{mostEvents, countAt, takes, line, header, refusedLine, ending}
@@ -36,7 +37,7 @@ isOver σ = eqb (σ .section) over
 
 -- Over a slow cable: at the opening the first section's count comes, and the image is fresh.
 abbrev pub opened : Standing
-opened = at 1 0 0 [] freshImage
+opened = at 1 0 0 [] (freshImage canB)
 
 -- Over a slow cable: after a fault or the closing nothing of the reading is kept; the image is.
 abbrev pub ended : List ℕ → Standing

@@ -311,7 +311,7 @@ fn text_length(image: &[u8], state: &[u8], part: &[u8]) -> usize
     requires { ⌜ (length (now image) ≡ imageBytes) × (length (now state) ≡ stateBytes) × Ready (standing (now image) (now state)) × (seen (now state) ≤ 15) ⌝ }
     ensures { λ n. ⌜ n ≡ length (printed (standing (now (image .entry)) (now (state .entry))) (now (part .entry))) ⌝ }
 {
-    let mut image_copy = [0u8; 640];
+    let mut image_copy = [0u8; 776];
     let mut state_copy = [0u8; 32];
     put_text(&mut image_copy, 0, image);
     put_text(&mut state_copy, 0, state);
@@ -393,7 +393,7 @@ fn begin(image: &mut [u8], state: &mut [u8], text: &mut [u8]) -> u64
     if text.len() < 24 {
         return answers::pack(9, 32, 0);
     }
-    fresh::fresh(image);
+    fresh::fresh(image, registers::CAN_B);
     let event = [0u8; 16];
     let first = Reader {
         section: 1,

@@ -6,7 +6,7 @@ use Rattle.bits.specs.Bit.{bit}
 use Rattle.registers.specs.declared.Block.{Block}
 use Rattle.registers.specs.Block.{blockOf}
 use Rattle.mailboxes.specs.Mailbox.{mailboxWord}
-use Rattle.filter.specs.Filter.{maskFor, differing}
+use Rattle.filter.specs.Filter.{maskFor, differing, guarded}
 use Rattle.explain.specs.Explain.{comparedReason}
 use Rattle.explain.proofs.Reasons.{differingAt, gap-30, gap-29, is-disabled, transmits, is-compared}
 use borrow.Author.Needs.{needs}
@@ -33,8 +33,8 @@ differed : (c : tie.After-differing)
 differed c =
     let s = c .before .before .before .before .before .before .before .before .before in
     c .differing .ensures
-    ∙ (λ i. differing (c .before .before .choose .ensures i) (s .args .f) (c .before .word .ensures i))
-    ∙ ap (λ (b : Block). differing (maskFor b (s .args .n)) (s .args .f) (mailboxWord (s .args .s .now) (s .args .n) 0)) (s .pre .1)
+    ∙ (λ i. differing (c .before .before .mask-of .ensures i) (s .args .f) (c .before .word .ensures i))
+    ∙ ap (λ (b : Block). differing (maskFor (s .args .s .now) b (s .args .n)) (s .args .f) (mailboxWord (s .args .s .now) (s .args .n) 0)) (s .pre .1)
 
 test-requires : tie.Need-test-requires
 test-requires c κs = search needs
@@ -52,8 +52,8 @@ returns-2 c =
     let s = c .before .before .before .before .before .before in
     sym (transmits (s .args .s .now) (s .args .f) (s .args .n) (is-enabled (c .before .before .before)) (receives (c .before .before) ∙ not-true _ (c .if2 .taken)))
 
-choose-requires : tie.Need-choose-requires
-choose-requires c κs = search needs
+mask-of-requires : tie.Need-mask-of-requires
+mask-of-requires c κs = search needs
 
 word-requires : tie.Need-word-requires
 word-requires c κs = search needs
@@ -61,18 +61,22 @@ word-requires c κs = search needs
 differing-requires : tie.Need-differing-requires
 differing-requires c κs = search needs
 
+is-guarded-requires : tie.Need-is-guarded-requires
+is-guarded-requires c κs = search needs
+
 judge-requires : tie.Need-judge-requires
 judge-requires c κs =
-    let e = differed c in
-    let a = c .before .before .before .before .before .before .before .before .before .args in
-    (ap (λ (x : ℕ). bit x 30) e ∙ gap-30 (a .s .now) (a .f) (a .n), ap (λ (x : ℕ). bit x 29) e ∙ gap-29 (a .s .now) (a .f) (a .n))
+    let d = c .before in
+    let a = d .before .before .before .before .before .before .before .before .before .args in
+    (ap (λ (x : ℕ). bit x 30) (differed d) ∙ gap-30 (a .s .now) (a .f) (a .n), ap (λ (x : ℕ). bit x 29) (differed d) ∙ gap-29 (a .s .now) (a .f) (a .n))
 
 returns-3 : tie.Need-returns-3
 returns-3 c =
-    let t = c .before .before .before .before in
+    let t = c .before .before .before .before .before in
     let s = t .before .before .before .before .before .before in
+    let g = c .before .is-guarded .ensures ∙ ap (λ (b : Block). bit (guarded b) (s .args .n)) (s .pre .1) in
     c .judge .ensures
-    ∙ ap (λ (x : ℕ). comparedReason (bit x)) (differed (c .before))
+    ∙ (λ i. comparedReason (g i) (bit (differed (c .before .before) i)))
     ∙ sym (is-compared (s .args .s .now) (s .args .f) (s .args .n) (is-enabled (t .before .before .before)) (receives (t .before .before) ∙ not-false _ (t .if2 .left)))
 
 pub reason-at-spec : {M : Type 1} → statement M
@@ -83,8 +87,9 @@ reason-at-spec =
     returns
     test-requires-2
     returns-2
-    choose-requires
+    mask-of-requires
     word-requires
     differing-requires
+    is-guarded-requires
     judge-requires
     returns-3)

@@ -10,7 +10,7 @@ same-length : tie.Need-same-length
 same-length c = search needs
 
 returns : tie.Need-returns
-returns c = fresh-call _ _ _ (c .before .before .fresh .ensures)
+returns c = fresh-call _ _ _ _ (c .before .before .fresh .ensures)
 
 pub frostsorrel-fresh-spec : {M : Type 1} → statement M
 frostsorrel-fresh-spec = tie.close (tie.spec fresh-requires same-length returns)

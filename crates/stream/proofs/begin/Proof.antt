@@ -1,6 +1,7 @@
 use mathlib.Core.List.{[]}
 use Rattle.stream.proofs.Leaving.{no-room, printed-there, fresh-there, nothing-gathered}
 use mathlib.Core.Path.{_∙_}
+use Rattle.registers.specs.Block.{canB}
 use Rattle.fresh.specs.Fresh.{freshImage}
 use Rattle.trace.specs.Trace.{header}
 use Rattle.stream.specs.Stream.{opened}
@@ -47,7 +48,7 @@ same-length-3 c = search needs
 returns-2 : tie.Need-returns-2
 returns-2 c =
     let a = c .before .before .before .before .before .before .before .before .before .before .before .before .before .before .before .before .before .before .before .args in
-    printed-there (a .image .now) (a .state .now) (a .text .now) opened header 0 (omega arith) (fresh-there (a .image .now) (a .state .now) (a .text .now) (c .before .before .before .before .before .before .before .before .before .before .before .before .before .before .before .before .before .before .before .pre .0) (c .before .before .before .before .before .before .before .before .before .before .before .before .before .fresh .ensures)) (c .before .before .before .before .before .before .before .before .keep .ensures ∙ nothing-gathered 1 [] freshImage) (c .before .before .before .put-text .ensures) (c .pack2 .ensures)
+    printed-there (a .image .now) (a .state .now) (a .text .now) opened header 0 (omega arith) (fresh-there (a .image .now) (a .state .now) (a .text .now) (c .before .before .before .before .before .before .before .before .before .before .before .before .before .before .before .before .before .before .before .pre .0) (c .before .before .before .before .before .before .before .before .before .before .before .before .before .fresh .ensures)) (c .before .before .before .before .before .before .before .before .keep .ensures ∙ nothing-gathered 1 [] (freshImage canB)) (c .before .before .before .put-text .ensures) (c .pack2 .ensures)
 
 pub begin-spec : {M : Type 1} → statement M
 begin-spec =
