@@ -5,9 +5,9 @@ use mathlib.Core.Bool.{Bool, true, false, cond, _&&_}
 use mathlib.Core.List.{List, [], _++_}
 use mathlib.Core.Logic.{_≢_}
 use native.Mathlib.Omega.{arith}
-use lib.Dec.{eqb, leb}
+use lib.Dec.{eqb}
 use lib.ListN.{length, take, drop}
-use borrow.Author.Tests.{eqb-true, eq-eqb, ne-eqb, lt-ltb, le-ltb, leb-true, leb-false}
+use borrow.Author.Tests.{eqb-true, eq-eqb, ne-eqb, lt-ltb, le-ltb}
 use Rattle.words.proofs.Bytes.{Bytes}
 use Rattle.answers.specs.Answer.{noMailbox, packed, Promise}
 use Rattle.registers.specs.Block.{canB}
@@ -19,7 +19,7 @@ use Rattle.stream.specs.declared.Reader.{Reader}
 use Rattle.stream.specs.declared.Taken.{Taken as Tally}
 use Rattle.stream.specs.Stream.{Standing, at, behind, over, opened, ended, fed, printed, lastLine}
 use Rattle.stream.specs.Calls.{stateOf, standing, seen, Call, refused, prints, unless, opening, fedCall, lastCall, Leaves}
-use Rattle.stream.specs.Terms.{standingBy, readerOf, Ready, Taking}
+use Rattle.stream.specs.Terms.{readerOf, Ready, Taking}
 use Rattle.stream.proofs.Ready.{steps-few, last-short, printed-most}
 use Rattle.stream.proofs.State.{ready-standing, seen-few}
 use Rattle.stream.proofs.Judging.{Taken}
@@ -91,10 +91,10 @@ module _ (s t o : List ℕ) where
   unfolding fresh
   fresh-there h p = rw (eq-eqb (length s) 776 h) at (p .image)
 
--- the state of a reader that has gathered nothing
-pub nothing-gathered : (k : ℕ) (e s : List ℕ) → stateOf (standingBy (record { section = k; left = 0; steps = 0; seen = 0 }) e []) ≡ stateOf (at k 0 0 [] s)
+-- the state of a reader that has gathered nothing hangs on no image
+pub nothing-gathered : (k : ℕ) (s : List ℕ) → stateOf (at k 0 0 [] []) ≡ stateOf (at k 0 0 [] s)
 unfolding stateOf
-nothing-gathered k e s = refl
+nothing-gathered k s = refl
 
 -- ---- a stream that nothing stands against
 
@@ -128,12 +128,12 @@ module _ {s t : List ℕ} (k : Taken s t) (b : Bytes t) where
       unfolding lastCall
       last-no-room {o} h e = no-room s t o (ended s) (lastLine (standing s t)) _ (omega (arith, long)) e
 
-      pub last-there : (e : List ℕ) {o y z : List ℕ} {i c a : ℕ} → n ≤ length o → length l ≡ 16 → y ≡ stateOf (standingBy (record { section = over; left = 0; steps = 0; seen = 0 }) e [])
+      pub last-there : {o y z : List ℕ} {i c a : ℕ} → n ≤ length o → length l ≡ 16 → y ≡ stateOf (at over 0 0 [] [])
           → Put o 0 (take n m) z i → c ≡ cond (eqb (r .section) 4) 0 8 → a ≡ packed c noMailbox n → Leaves (lastCall s t o) s y z a
       unfolding lastCall
-      last-there e {o} {z = z} {i = i} f q y w c a =
+      last-there {o} {z = z} {i = i} f q y w c a =
           let text : take n m ≡ lastLine (standing s t) = front-of (omega (arith, line-short)) p ∙ line-is in
-          printed-there s t o (ended s) (lastLine (standing s t)) _ (omega (arith, long)) refl (y ∙ nothing-gathered over e s) (subst (λ (u : List ℕ). Put o 0 u z i) text w)
+          printed-there s t o (ended s) (lastLine (standing s t)) _ (omega (arith, long)) refl (y ∙ nothing-gathered over s) (subst (λ (u : List ℕ). Put o 0 u z i) text w)
           (a ∙ ap₂ (λ (x y : ℕ). packed x noMailbox y) (c ∙ ap (λ (r : Reader). cond (eqb (r .section) 4) 0 8) h) long)
 
   -- ---- a part
@@ -142,18 +142,25 @@ module _ {s t : List ℕ} (k : Taken s t) (b : Bytes t) where
     abbrev σ : Standing
     σ = standing s t
 
-    pub part-no-room : {f : Bool} {a : ℕ} → f ≡ leb (length (printed σ p)) (length o) → f ≡ false → a ≡ packed 9 noMailbox 0 → Leaves (fedCall s t p o) s t o a
+    -- its text does not fit, and image and state are what they were
+    pub part-undone : {x y : List ℕ} {a : ℕ} → length o < length (printed σ p) → x ≡ s → y ≡ t → a ≡ packed 9 noMailbox 0 → Leaves (fedCall s t p o) x y o a
     unfolding fedCall
-    part-no-room e h q = no-room s t o (fed σ p) (printed σ p) _ (leb-false (length (printed σ p)) (length o) (sym e ∙ h)) q
+    part-undone h x y q = leaves-as (prints-short s t o (fed σ p) (printed σ p) _ h) (record { image = x; state = y; text = refl; answered = q })
 
-    module _ (small : Bytes p) {x y z : List ℕ} {q : Tally} (w : Taking σ p o x y z q) where
+    module _ (small : Bytes p) {keeps : Bool} {m x y z : List ℕ} {q : Tally} (w : Taking keeps σ p m x y z q) where
       pub counts-fit : q .length ≤ 39016
       counts-fit = omega (arith, w .counted, printed-most σ can-stand p small)
 
-      pub part-there : {f : Bool} {c a : ℕ} → f ≡ leb (length (printed σ p)) (length o) → f ≡ true → c ≡ cond (eqb (q .reader .section) 5) 8 0
-          → a ≡ packed c noMailbox (q .length) → Leaves (fedCall s t p o) x y z a
+      pub part-there : {u : List ℕ} {n a : ℕ} → length (printed σ p) ≤ length o → Put o 0 (printed σ p) u n
+          → a ≡ packed (cond (eqb (q .reader .section) over) 8 0) noMailbox (q .length) → Leaves (fedCall s t p o) x y u a
       unfolding fedCall
-      part-there e h c a =
-          let fits = leb-true (length (printed σ p)) (length o) (sym e ∙ h) in
-          printed-there s t o (fed σ p) (printed σ p) _ fits (w .image-is) (w .state-is) (record { bytes = w .text fits; behind = refl })
-          (a ∙ ap₂ (λ (x y : ℕ). packed x noMailbox y) (c ∙ ap (λ (n : ℕ). cond (eqb n 5) 8 0) (w .section-is)) (w .counted))
+      part-there f k a =
+          printed-there s t o (fed σ p) (printed σ p) _ f (w .image-is) (w .state-is) k
+          (a ∙ ap₂ (λ (x y : ℕ). packed (cond (eqb x over) 8 0) noMailbox y) (w .section-is) (w .counted))
+
+      -- the same with a text that was made apart
+      pub part-copied : {u : List ℕ} {n a : ℕ} → keeps ≡ true → length (printed σ p) ≤ length m → length (printed σ p) ≤ length o → Put o 0 (take (q .length) z) u n
+          → a ≡ packed (cond (eqb (q .reader .section) over) 8 0) noMailbox (q .length) → Leaves (fedCall s t p o) x y u a
+      part-copied {u} {n} h l f k a =
+          let c : Put m 0 (printed σ p) z (q .length) = record { bytes = w .text h; behind = omega (arith, w .counted) } in
+          part-there f (subst (λ (t : List ℕ). Put o 0 t u n) (front-of l c) k) a

@@ -13,50 +13,52 @@ use borrow.Author.Tests.{eq-eqb, ne-eqb, eqb-true, eqb-false, ltb-true, ltb-fals
 use Rattle.words.specs.Word.{wordAt}
 use Rattle.words.proofs.Bytes.{Bytes}
 use Rattle.texts.specs.Text.{written}
-use Rattle.texts.proofs.Writing.{written-append, front-of}
+use Rattle.texts.proofs.Writing.{written-append}
 use Rattle.stream.specs.declared.Reader.{Reader}
 use Rattle.stream.specs.declared.Taken.{Taken}
 use Rattle.stream.specs.Stream.{Standing, fed, printed}
 use Rattle.stream.specs.Calls.{allZero}
-use Rattle.stream.specs.Terms.{standingBy, Ready, TookSome, atOnce, Fed, Added}
+use Rattle.stream.specs.Terms.{standingBy, Ready, Clean, TookSome, atOnce, roomFor, Fed}
 use Rattle.stream.proofs.Cuts.{fed-append, printed-append}
-use Rattle.stream.proofs.Ready.{fed-ready, printed-most}
+use Rattle.stream.proofs.Ready.{fed-ready, printed-most, printed-fits}
 
 -- ---- the bytes of a part
 
 -- i of them are taken: what is left to take gives what the whole gives
-pub record Going (σ : Standing) (part o e s out line : List ℕ) (r : Reader) (n i : ℕ) : Type 0 where
+pub record Going (keeps : Bool) (σ : Standing) (part o e s out : List ℕ) (r : Reader) (n i : ℕ) : Type 0 where
   pub rest : fed (standingBy r e s) (drop i part) ≡ fed σ part
   pub counted : n + length (printed (standingBy r e s) (drop i part)) ≡ length (printed σ part)
-  pub text : length (printed σ part) ≤ length o → written out n (printed (standingBy r e s) (drop i part)) ≡ written o 0 (printed σ part)
+  pub text : keeps ≡ true → written out n (printed (standingBy r e s) (drop i part)) ≡ written o 0 (printed σ part)
+  pub room : roomFor keeps (length (printed σ part)) ≤ length o
   pub bound : length (printed σ part) ≤ 39016
   pub ready : Ready (standingBy r e s)
   pub few : r .seen ≤ 15
   pub sixteen : length e ≡ 16
+  pub clean : Clean (r .seen) e
   pub image-length : length s ≡ length (σ .image)
   pub out-length : length out ≡ length o
-  pub line-length : length line ≡ 16
   pub most : i ≤ length part
 
-pub begun : (r : Reader) (part o e s line : List ℕ) → Ready (standingBy r e s) → r .seen ≤ 15 → length e ≡ 16 → Bytes part → length line ≡ 16
-    → Going (standingBy r e s) part o e s o line r 0 0
-begun r part o e s line d f h b l =
+pub begun : (keeps : Bool) (r : Reader) (part o e s : List ℕ) → Ready (standingBy r e s) → r .seen ≤ 15 → length e ≡ 16 → Clean (r .seen) e
+    → roomFor keeps (length (printed (standingBy r e s) part)) ≤ length o → Bytes part → Going keeps (standingBy r e s) part o e s o r 0 0
+begun keeps r part o e s d f h c m b =
     record {
       rest = refl;
       counted = omega arith;
-      text = λ m. refl;
+      text = λ k. refl;
+      room = m;
       bound = printed-most (standingBy r e s) d part b;
       ready = d;
       few = f;
       sixteen = h;
+      clean = c;
       image-length = refl;
       out-length = refl;
-      line-length = l;
       most = omega arith;
     }
 
-module _ {σ : Standing} {part o e s out line : List ℕ} {r : Reader} {n i : ℕ} (g : Going σ part o e s out line r n i) where
-  pub ended : length part ≤ i → Fed σ part o e s out (record { reader = r; length = n })
+module _ {keeps : Bool} {σ : Standing} {part o e s out : List ℕ} {r : Reader} {n i : ℕ} (g : Going keeps σ part o e s out r n i) where
+  pub ended : length part ≤ i → Fed keeps σ part o e s out (record { reader = r; length = n })
   unfolding fed printed written
   ended l =
       let z : i ≡ length part = omega (arith, g .most) in
@@ -64,6 +66,7 @@ module _ {σ : Standing} {part o e s out line : List ℕ} {r : Reader} {n i : �
       record {
         next = ap (fed (standingBy r e s)) (sym none) ∙ g .rest;
         few = g .few;
+        clean = g .clean;
         counted = omega (arith, g .counted, ap (λ (w : List ℕ). length (printed (standingBy r e s) w)) none);
         text = λ m. ap (λ (w : List ℕ). written out n (printed (standingBy r e s) w)) (sym none) ∙ g .text m;
       }
@@ -107,47 +110,48 @@ module _ {σ : Standing} {part o e s out line : List ℕ} {r : Reader} {n i : �
       in-all : n + (length (printed τ b) + length later) ≡ length (printed σ part)
       in-all = omega (arith, g .counted, ap length this-text, length-append (printed τ b) later)
 
-      -- the line that they left, up to its length
-      module _ {d u line' : List ℕ} {p : Taken} (small : Bytes b) (w : TookSome τ b line d u line' p) where
-        length-is : p .length ≡ length (printed τ b)
-        length-is = omega (arith, w .put .behind)
+      -- the place of their text, and the room that is there
+      module _ (small : Bytes b) {q : ℕ} (a : q ≡ cond keeps n 0) where
+        pub piece-room : q + length (printed τ b) ≤ length out
+        piece-room = to keeps (g .room) a
+          where
+            to : (k : Bool) → roomFor k (length (printed σ part)) ≤ length o → q ≡ cond k n 0 → q + length (printed τ b) ≤ length out
+            to true m e = omega (arith, in-all, g .out-length)
+            to false m e = omega (arith, printed-fits τ (g .ready) b small, chunk-length, some-there .2, g .out-length)
 
-        pub in-line : p .length ≤ 16
-        in-line = omega (arith, length-is, w .short)
+        module _ {d u out' : List ℕ} {p : Taken} (w : TookSome τ b out q d u out' p) where
+          pub behind-place : q ≤ p .length
+          behind-place = omega (arith, w .put .behind)
 
-        pub below : n ≤ 65536
-        below = omega (arith, in-all, g .bound)
+          pub below : n + (p .length - q) ≤ 39016
+          below = omega (arith, w .put .behind, in-all, g .bound)
 
-        line-is : take (p .length) line' ≡ printed τ b
-        line-is = front-of (omega (arith, w .short, g .line-length)) (w .put)
-
-        pub taken : {out' : List ℕ} {k : ℕ} → Added out n (take (p .length) line') out' k → length d ≡ length e → length u ≡ length s
-            → length out' ≡ length out → length line' ≡ length line → Going σ part o d u out' line' (p .reader) k (i + j)
-        taken {out'} {k} a ed us oo ll =
-            let m : length (take (p .length) line') ≡ length (printed τ b) = ap length line-is in
-            record {
-              rest = ap (λ (τ : Standing). fed τ (drop (i + j) part)) (w .stands) ∙ sym this-rest ∙ g .rest;
-              counted =
-                  ap (λ (τ : Standing). k + length (printed τ (drop (i + j) part))) (w .stands)
-                  ∙ omega (arith, a .counted, m, in-all);
-              text = λ f.
-                  let c = a .bytes (omega (arith, m, in-all, g .out-length)) in
-                  let q : k ≡ n + length (printed τ b) = omega (arith, a .counted, m) in
-                  ap (λ (τ : Standing). written out' k (printed τ (drop (i + j) part))) (w .stands)
-                  ∙ ap (λ (y : List ℕ). written y k later) (c ∙ ap (written out n) line-is)
-                  ∙ ap (λ (j : ℕ). written (written out n (printed τ b)) j later) q
-                  ∙ written-append out n (printed τ b) later
-                  ∙ ap (written out n) (sym this-text)
-                  ∙ g .text f;
-              bound = g .bound;
-              ready = rw (w .stands) (fed-ready τ (g .ready) b small);
-              few = w .few;
-              sixteen = ed ∙ g .sixteen;
-              image-length = us ∙ g .image-length;
-              out-length = oo ∙ g .out-length;
-              line-length = ll ∙ g .line-length;
-              most = some-there .1;
-            }
+          pub taken : length d ≡ length e → length u ≡ length s → length out' ≡ length out → Going keeps σ part o d u out' (p .reader) (n + (p .length - q)) (i + j)
+          taken ed us oo =
+              let k = n + (p .length - q) in
+              let m : k ≡ n + length (printed τ b) = omega (arith, w .put .behind) in
+              record {
+                rest = ap (λ (τ : Standing). fed τ (drop (i + j) part)) (w .stands) ∙ sym this-rest ∙ g .rest;
+                counted =
+                    ap (λ (τ : Standing). k + length (printed τ (drop (i + j) part))) (w .stands)
+                    ∙ omega (arith, m, in-all);
+                text = λ f.
+                    let c : q ≡ n = a ∙ ap (λ (k : Bool). cond k n 0) f in
+                    ap (λ (τ : Standing). written out' k (printed τ (drop (i + j) part))) (w .stands)
+                    ∙ ap₂ (λ (y : List ℕ) (j : ℕ). written y j later) (w .put .bytes ∙ ap (λ (j : ℕ). written out j (printed τ b)) c) m
+                    ∙ written-append out n (printed τ b) later
+                    ∙ ap (written out n) (sym this-text)
+                    ∙ g .text f;
+                room = g .room;
+                bound = g .bound;
+                ready = rw (w .stands) (fed-ready τ (g .ready) b small);
+                few = w .few;
+                sixteen = ed ∙ g .sixteen;
+                clean = w .clean;
+                image-length = us ∙ g .image-length;
+                out-length = oo ∙ g .out-length;
+                most = some-there .1;
+              }
 
 -- ---- zeros
 

@@ -256,14 +256,19 @@ zeros-are [] h = refl
 zeros-are (x ∷ l) h =
     ap₂ (λ (y : ℕ) (r : List ℕ). y ∷ r) (eqb-true x 0 (and-l (eqb x 0) (allZero l) h)) (zeros-are l (and-r (eqb x 0) (allZero l) h))
 
+-- so they are, behind what is gathered
+pub zeros-behind : (t : List ℕ) → length t ≡ 32 → ready t ≡ true → drop (seen t) (drop 16 t) ≡ replicate (16 - seen t) 0
+zeros-behind t size r =
+    let z = drop (16 + seen t) t in
+    let e : length z ≡ 16 - seen t = omega (arith, length-drop (16 + seen t) t) in
+    drop-drop (seen t) 16 t ∙ zeros-are z (ranged t r .1 .1 .1 .1 .1 .1 .0) ∙ ap (λ (j : ℕ). replicate j 0) e
+
 pub standing-state : (s t : List ℕ) → length t ≡ 32 → Bytes t → ready t ≡ true → t ≡ stateOf (standing s t)
 unfolding stateOf standing
 standing-state s t size b r =
     let n = seen t in
     let c = came s t size b r in
-    let z = drop (16 + n) t in
     let k = length-came s t size b r in
-    let e : length z ≡ 16 - length c = omega (arith, length-drop (16 + n) t) in
     four-at t b 0 (omega arith)
     ∙ ap (λ (x : List ℕ). wordBytes (wordAt t 0) ++ x) (four-at t b 4 (omega arith)
     ∙ ap (λ (x : List ℕ). wordBytes (wordAt t 4) ++ x) (four-at t b 8 (omega arith)
@@ -271,4 +276,4 @@ standing-state s t size b r =
     ∙ ap₂ (λ (m : ℕ) (x : List ℕ). wordBytes m ++ x) (sym k)
     (sym (take-append-drop n (drop 16 t))
     ∙ ap (λ (x : List ℕ). c ++ x)
-    (drop-drop n 16 t ∙ zeros-are z (ranged t r .1 .1 .1 .1 .1 .1 .0) ∙ ap (λ (j : ℕ). replicate j 0) e)))))
+    (zeros-behind t size r ∙ ap (λ (j : ℕ). replicate (16 - j) 0) (sym k))))))

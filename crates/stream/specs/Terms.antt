@@ -1,14 +1,14 @@
 -- What the code of the stream relies on, and what its parts leave. No promise to C is said in these words.
 use Prim.Native.Nat.{ℕ, _+_, _-_, _*_, _<_, _≤_}
 use mathlib.Core.Path.{_≡_}
-use mathlib.Core.Bool.{true, cond}
-use mathlib.Core.List.{List, []}
+use mathlib.Core.Bool.{Bool, true, cond}
+use mathlib.Core.List.{List, [], _++_}
 use lib.Dec.{eqb, ltb}
-use lib.ListN.{length, take, getD}
+use lib.ListN.{length, take, drop, getD, replicate}
 use Rattle.words.specs.Word.{wordAt}
 use Rattle.words.specs.Bytes.{Bytes}
 use Rattle.events.specs.Parts.{eventBytes}
-use Rattle.texts.specs.Text.{written, Put}
+use Rattle.texts.specs.Text.{written, Put, wordBytes}
 use Rattle.trace.specs.Trace.{takes}
 use Rattle.stream.specs.declared.Reader.{Reader}
 use Rattle.stream.specs.declared.Taken.{Taken}
@@ -35,42 +35,50 @@ pub record Ready (σ : Standing) : Type 0 where
   pub placed : 0 < σ .left → 0 < length (σ .gathered) → takes (σ .section) (getD (σ .gathered) 0 0) ≡ true
   pub bytes : Bytes (σ .gathered)
 
--- What bytes leave: the reader, the bytes in which it gathers, the image, and their text at the front of the line.
-pub record Took (next : Standing) (text line event image exit : List ℕ) (p : Taken) : Type 0 where
+-- Only zeros stand behind the first n of the 16 bytes e.
+abbrev pub Clean : ℕ → List ℕ → Type 0
+Clean n e = drop n e ≡ replicate (eventBytes - n) 0
+
+-- What bytes leave: the reader, the bytes in which it gathers, the image, and their text from `place` on.
+pub record Took (next : Standing) (text o : List ℕ) (place : ℕ) (event image exit : List ℕ) (p : Taken) : Type 0 where
   pub stands : standingBy (p .reader) event image ≡ next
   pub few : p .reader .seen ≤ 15
-  pub short : length text ≤ 16
-  pub put : Put line 0 text exit (p .length)
+  pub clean : Clean (p .reader .seen) event
+  pub put : Put o place text exit (p .length)
 
-abbrev pub TookSome : Standing → List ℕ → List ℕ → List ℕ → List ℕ → List ℕ → Taken → Type 0
-TookSome σ bytes line event image exit p = Took (fed σ bytes) (printed σ bytes) line event image exit p
+abbrev pub TookSome : Standing → List ℕ → List ℕ → ℕ → List ℕ → List ℕ → List ℕ → Taken → Type 0
+TookSome σ bytes o place event image exit p = Took (fed σ bytes) (printed σ bytes) o place event image exit p
 
--- What the bytes of a count leave, whatever the image is.
-abbrev pub Counts : Reader → List ℕ → List ℕ → List ℕ → Taken → Type 0
-Counts r event line exit p =
+-- What the bytes of a count leave, whatever the image is: they came in the bytes e.
+abbrev pub Counts : Reader → List ℕ → List ℕ → List ℕ → ℕ → List ℕ → Taken → Type 0
+Counts r e event o place exit p =
     (s : List ℕ)
-    → let t = counts (at (r .section) (r .left) (r .steps) [] s) (take (r .seen + 1) event) in Took (t .next) (t .text) line event s exit p
+    → let t = counts (at (r .section) (r .left) (r .steps) [] s) (take (r .seen + 1) e) in Took (t .next) (t .text) o place event s exit p
 
 -- How many bytes are taken at once, of those that are there: as many as the event lacks; while no event is read, one.
 abbrev pub atOnce : ℕ → ℕ → ℕ → ℕ
 atOnce left seen there = cond (eqb left 0) 1 (cond (ltb there (eventBytes - seen)) there (eventBytes - seen))
 
--- What a part leaves. Its text stands at the front of o where it fits; it is counted in any case.
-pub record Fed (σ : Standing) (part o event image exit : List ℕ) (p : Taken) : Type 0 where
+-- The room for a text of n bytes: where it is not kept, what bytes that are taken at once print.
+abbrev pub roomFor : Bool → ℕ → ℕ
+roomFor keeps n = cond keeps n 47
+
+-- What a part leaves. Its text stands at the front of o where it is kept; it is counted in any case.
+pub record Fed (keeps : Bool) (σ : Standing) (part o event image exit : List ℕ) (p : Taken) : Type 0 where
   pub next : standingBy (p .reader) event image ≡ fed σ part
   pub few : p .reader .seen ≤ 15
+  pub clean : Clean (p .reader .seen) event
   pub counted : p .length ≡ length (printed σ part)
-  pub text : length (printed σ part) ≤ length o → exit ≡ written o 0 (printed σ part)
+  pub text : keeps ≡ true → exit ≡ written o 0 (printed σ part)
 
 -- The same, with the state bytes.
-pub record Taking (σ : Standing) (part o image state exit : List ℕ) (p : Taken) : Type 0 where
+pub record Taking (keeps : Bool) (σ : Standing) (part o image state exit : List ℕ) (p : Taken) : Type 0 where
   pub image-is : image ≡ fed σ part .image
   pub state-is : state ≡ stateOf (fed σ part)
   pub section-is : p .reader .section ≡ fed σ part .section
   pub counted : p .length ≡ length (printed σ part)
-  pub text : length (printed σ part) ≤ length o → exit ≡ written o 0 (printed σ part)
+  pub text : keeps ≡ true → exit ≡ written o 0 (printed σ part)
 
--- A text behind the first `at` bytes of o, where it fits; it is counted in any case.
-pub record Added (o : List ℕ) (at : ℕ) (text exit : List ℕ) (answer : ℕ) : Type 0 where
-  pub counted : answer ≡ at + length text
-  pub bytes : at + length text ≤ length o → exit ≡ written o at text
+-- The first four words of a state, and what stands behind them.
+abbrev pub numbers : Reader → List ℕ → List ℕ
+numbers r rest = wordBytes (r .section) ++ (wordBytes (r .left) ++ (wordBytes (r .steps) ++ (wordBytes (r .seen) ++ rest)))

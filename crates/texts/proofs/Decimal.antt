@@ -2,7 +2,7 @@
 use Prim.Native.Nat.{ℕ, zero, suc, _+_, _*_, _/_, _%_, _<_, _≤_}
 use mathlib.Core.Path.{_≡_, refl, _∙_, ap}
 use mathlib.Core.Bool.{Bool, true, false, cond}
-use mathlib.Core.List.{List, [], _∷_, _++_}
+use mathlib.Core.List.{List, [], _∷_, _++_, append-assoc}
 use native.Mathlib.Omega.{arith}
 use lib.Dec.{ltb}
 use lib.ListN.{length, length-append}
@@ -54,3 +54,14 @@ digits-three n h = digits-more 100 2 digits-two (omega arith) n h
 
 pub digits-four : (n : ℕ) → n < 10000 → length (decimal n) ≤ 4
 digits-four n h = digits-more 1000 3 digits-three (omega arith) n h
+
+-- the last two digits
+pub decimal-two : (n : ℕ) → 10 ≤ n → n < 100 → decimal n ≡ (48 + n / 10 % 10) ∷ (48 + n % 10) ∷ []
+decimal-two n h l = decimal-long n h ∙ ap (λ (x : List ℕ). x ++ last n) (decimal-short (n / 10) (omega arith))
+
+pub decimal-more : (n : ℕ) → 100 ≤ n → decimal n ≡ decimal (n / 100) ++ ((48 + n / 10 % 10) ∷ (48 + n % 10) ∷ [])
+decimal-more n h =
+    let e : n / 10 / 10 ≡ n / 100 = omega arith in
+    decimal-long n (omega arith)
+    ∙ ap (λ (x : List ℕ). x ++ last n) (decimal-long (n / 10) (omega arith) ∙ ap (λ (m : ℕ). decimal m ++ last (n / 10)) e)
+    ∙ append-assoc (decimal (n / 100)) (last (n / 10)) (last n)

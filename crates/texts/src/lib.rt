@@ -1,7 +1,7 @@
 // What is put into lent bytes, from a place on; each function answers the place behind what it wrote.
 ghost use mathlib.Core.Path.{_≡_};
 ghost use mathlib.Core.List.{[], _∷_};
-ghost use Prim.Native.Nat.{_+_, _%_, _<_, _≤_};
+ghost use Prim.Native.Nat.{_+_, _/_, _%_, _<_, _≤_};
 ghost use lib.ListN.{length};
 ghost use Rattle.answers.specs.Answer.{Fitted};
 ghost use Rattle.texts.specs.Text.{Put, wordBytes, decimal, field};
@@ -38,23 +38,60 @@ pub fn put_word(out: &mut [u8], at: usize, v: u32) -> usize
     at + 4
 }
 
-// The last decimal digit of n, as a byte of text.
-fn digit(n: u64) -> u8
-    ensures { λ r. ⌜ r ≡ 48 + n % 10 ⌝ }
+// The last decimal digit of n.
+fn put_digit(out: &mut [u8], at: usize, n: u64) -> usize
+    requires { ⌜ at < length (now out) ⌝ }
+    ensures { λ r. ⌜ Put (now (out .entry)) at ((48 + n % 10) ∷ []) (now (out .exit)) r ⌝ }
 {
-    48 + (n % 10) as u8
+    put(out, at, 48 + (n % 10) as u8)
 }
 
-// A number in decimal digits: the last one stands behind those of a tenth of it.
-fn put_number(out: &mut [u8], at: usize, n: u64) -> usize
+// Its last two.
+fn put_two(out: &mut [u8], at: usize, n: u64) -> usize
+    requires { ⌜ at + 2 ≤ length (now out) ⌝ }
+    ensures { λ r. ⌜ Put (now (out .entry)) at ((48 + n / 10 % 10) ∷ (48 + n % 10) ∷ []) (now (out .exit)) r ⌝ }
+{
+    let last = put_digit(out, at, n / 10);
+    put_digit(out, last, n)
+}
+
+// A number of one digit or two.
+fn put_short(out: &mut [u8], at: usize, n: u64) -> usize
+    requires { ⌜ (n < 100) × (at + length (decimal n) ≤ length (now out)) ⌝ }
+    ensures { λ r. ⌜ Put (now (out .entry)) at (decimal n) (now (out .exit)) r ⌝ }
+{
+    if n < 10 {
+        return put_digit(out, at, n);
+    }
+    put_two(out, at, n)
+}
+
+// A number of any length: the last digit stands behind those of a tenth of it.
+fn put_long(out: &mut [u8], at: usize, n: u64) -> usize
     requires { ⌜ at + length (decimal n) ≤ length (now out) ⌝ }
     ensures { λ r. ⌜ Put (now (out .entry)) at (decimal n) (now (out .exit)) r ⌝ }
 {
     if n < 10 {
-        return put(out, at, digit(n));
+        return put_digit(out, at, n);
     }
-    let last = put_number(out, at, n / 10);
-    put(out, last, digit(n))
+    let last = put_long(out, at, n / 10);
+    put_digit(out, last, n)
+}
+
+// A number in decimal digits. Most have four at most, and are written without a function that calls itself: the compiler makes no such
+// function part of its caller.
+fn put_number(out: &mut [u8], at: usize, n: u64) -> usize
+    requires { ⌜ at + length (decimal n) ≤ length (now out) ⌝ }
+    ensures { λ r. ⌜ Put (now (out .entry)) at (decimal n) (now (out .exit)) r ⌝ }
+{
+    if n < 100 {
+        return put_short(out, at, n);
+    }
+    if n < 10000 {
+        let first = put_short(out, at, n / 100);
+        return put_two(out, first, n);
+    }
+    put_long(out, at, n)
 }
 
 // A number and the byte that ends it.

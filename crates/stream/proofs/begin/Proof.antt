@@ -1,4 +1,3 @@
-use mathlib.Core.List.{[]}
 use Rattle.stream.proofs.Leaving.{no-room, printed-there, fresh-there, nothing-gathered}
 use mathlib.Core.Path.{_∙_}
 use Rattle.registers.specs.Block.{canB}
@@ -21,11 +20,8 @@ returns c =
 fresh-requires : tie.Need-fresh-requires
 fresh-requires c κs = search needs
 
-slice-aggregate-keep : tie.Need-slice-aggregate-keep
-slice-aggregate-keep c = search needs
-
-keep-requires : tie.Need-keep-requires
-keep-requires c κs = search needs
+restart-requires : tie.Need-restart-requires
+restart-requires c κs = search needs
 
 slice-aggregate-put-text : tie.Need-slice-aggregate-put-text
 slice-aggregate-put-text c = search needs
@@ -47,8 +43,8 @@ same-length-3 c = search needs
 
 returns-2 : tie.Need-returns-2
 returns-2 c =
-    let a = c .before .before .before .before .before .before .before .before .before .before .before .before .before .before .before .before .before .before .before .args in
-    printed-there (a .image .now) (a .state .now) (a .text .now) opened header 0 (omega arith) (fresh-there (a .image .now) (a .state .now) (a .text .now) (c .before .before .before .before .before .before .before .before .before .before .before .before .before .before .before .before .before .before .before .pre .0) (c .before .before .before .before .before .before .before .before .before .before .before .before .before .fresh .ensures)) (c .before .before .before .before .before .before .before .before .keep .ensures ∙ nothing-gathered 1 [] (freshImage canB)) (c .before .before .before .put-text .ensures) (c .pack2 .ensures)
+    let a = c .before .before .before .before .before .before .before .before .before .before .before .before .before .before .before .before .before .before .args in
+    printed-there (a .image .now) (a .state .now) (a .text .now) opened header 0 (omega arith) (fresh-there (a .image .now) (a .state .now) (a .text .now) (c .before .before .before .before .before .before .before .before .before .before .before .before .before .before .before .before .before .before .pre .0) (c .before .before .before .before .before .before .before .before .before .before .before .before .fresh .ensures)) (c .before .before .before .before .before .before .before .before .restart .ensures ∙ nothing-gathered 1 (freshImage canB)) (c .before .before .before .put-text .ensures) (c .pack2 .ensures)
 
 pub begin-spec : {M : Type 1} → statement M
 begin-spec =
@@ -57,8 +53,7 @@ begin-spec =
     pack-requires
     returns
     fresh-requires
-    slice-aggregate-keep
-    keep-requires
+    restart-requires
     slice-aggregate-put-text
     put-text-requires
     pack-requires-2

@@ -1,6 +1,7 @@
-use Rattle.stream.proofs.Bytewise.{alone, none-left, over-bytes, behind-byte, one-at-most, count-byte, inside}
-use mathlib.Core.Path.{_∙_}
-use lib.ListN.{length-set, getD}
+use Prim.Native.Nat.{_≤_}
+use Rattle.stream.proofs.Bytewise.{alone, none-left, over-bytes, behind-text, behind-byte, one-at-most, still-zeros, count-room, count-byte, inside}
+use mathlib.Core.Path.{_∙_, ap}
+use lib.ListN.{length, length-set, getD}
 use native.Mathlib.Omega.{arith}
 use borrow.Author.Needs.{needs}
 use Rattle.stream.proofs.take_some.Statement.{statement}
@@ -13,10 +14,16 @@ returns : tie.Need-returns
 returns c =
     let a = c .before .before .before .before .before .before .before .args in
     let p = c .before .before .before .before .before .before .before .pre in
-    over-bytes (a .r) (a .event .now) (a .image .now) (p .0) (p .4) (a .bytes .now) (a .line .now) (c .before .if1 .taken) (c .wait .ensures .0) (c .wait .ensures .1) (omega (arith, p .1, p .2))
+    over-bytes (a .r) (a .event .now) (a .image .now) (p .0) (p .4) (a .bytes .now) (a .out .now) (p .5) (c .before .if1 .taken) (c .wait .ensures .0) (c .wait .ensures .1) (omega (arith, p .1, p .2))
 
 fault-requires : tie.Need-fault-requires
-fault-requires c κs = search needs
+fault-requires c κs =
+    let a = c .before .before .before .before .before .before .before .before .before .args in
+    let p = c .before .before .before .before .before .before .before .before .before .pre in
+    let h = c .before .if2 .taken in
+    let z = none-left (a .r) (a .event .now) (a .image .now) (p .0) (p .4) h in
+    let t = behind-text (a .r) (a .event .now) (a .image .now) (p .0) (p .4) (omega (arith, p .1, p .2)) (getD (a .bytes .now) 0 0) (alone (a .bytes .now) (p .3 z)) (a .out .now) (a .place) h in
+    omega (arith, ap length t, p .6)
 
 same-length : tie.Need-same-length
 same-length c = search needs
@@ -25,8 +32,9 @@ returns-2 : tie.Need-returns-2
 returns-2 c =
     let a = c .before .before .before .before .before .before .before .before .before .before .before .before .args in
     let p = c .before .before .before .before .before .before .before .before .before .before .before .before .pre in
-    let z = none-left (a .r) (a .event .now) (a .image .now) (p .0) (p .4) (c .before .before .before .before .if2 .taken) in
-    behind-byte (a .r) (a .event .now) (a .image .now) (p .0) (p .4) (omega (arith, p .1, p .2)) (getD (a .bytes .now) 0 0) (alone (a .bytes .now) (p .3 z)) (a .line .now) (c .before .before .before .before .if2 .taken) (c .before .before .fault .ensures .0) (c .before .before .fault .ensures .1)
+    let h = c .before .before .before .before .if2 .taken in
+    let z = none-left (a .r) (a .event .now) (a .image .now) (p .0) (p .4) h in
+    behind-byte (a .r) (a .event .now) (a .image .now) (p .0) (p .4) (omega (arith, p .1, p .2)) (getD (a .bytes .now) 0 0) (alone (a .bytes .now) (p .3 z)) (a .out .now) (a .place) (p .5) h (c .before .before .fault .ensures .0) (c .before .before .fault .ensures .1)
 
 gather-requires : tie.Need-gather-requires
 gather-requires c κs = search needs
@@ -56,19 +64,25 @@ count-requires : tie.Need-count-requires
 count-requires c κs =
     let a = c .before .before .before .before .before .before .before .before .before .before .before .before .before .before .args in
     let p = c .before .before .before .before .before .before .before .before .before .before .before .before .before .before .pre in
-    (inside (a .r) (a .event .now) (a .image .now) (p .0) (p .4) (λ z. omega arith) (λ z. omega arith), one-at-most (a .r) (a .event .now) (a .image .now) (p .0) (p .4) (omega (arith, p .1, p .2)) (λ z. omega arith) (omega arith), length-set (a .event .now) (a .r .seen) (getD (a .bytes .now) 0 0) ∙ p .4, p .5)
+    let i = inside (a .r) (a .event .now) (a .image .now) (p .0) (p .4) (λ z. omega arith) (λ z. omega arith) in
+    let f : a .r .seen ≤ 15 = omega (arith, p .1, p .2) in
+    let x = getD (a .bytes .now) 0 0 in
+    let b = alone (a .bytes .now) (p .3 (omega arith)) in
+    let m = one-at-most (a .r) (a .event .now) (a .image .now) (p .0) (p .4) f (λ z. omega arith) (omega arith) in
+    (i, m, length-set (a .event .now) (a .r .seen) x ∙ p .4, still-zeros (a .r) (a .event .now) (a .image .now) (p .0) (p .4) f x b (a .out .now) (a .place) (p .5), count-room (a .r) (a .event .now) (a .image .now) (p .0) (p .4) f x b (a .out .now) (a .place) i (omega arith) m (p .6))
 
 same-length-5 : tie.Need-same-length-5
-same-length-5 c = search needs
+same-length-5 c =
+    c .before .before .before .before .count .kept .1 .0 ∙ length-set (c .before .before .before .before .before .before .before .before .before .before .before .before .before .before .before .before .before .before .before .args .event .now) (c .before .before .before .before .before .before .before .before .before .before .before .before .before .before .before .before .before .before .before .args .r .seen) (getD (c .before .before .before .before .before .before .before .before .before .before .before .before .before .before .before .before .before .before .before .args .bytes .now) 0 0)
 
 same-length-6 : tie.Need-same-length-6
 same-length-6 c = search needs
 
 returns-4 : tie.Need-returns-4
 returns-4 c =
-    let a = c .before .before .before .before .before .before .before .before .before .before .before .before .before .before .before .before .before .args in
-    let p = c .before .before .before .before .before .before .before .before .before .before .before .before .before .before .before .before .before .pre in
-    count-byte (a .r) (a .event .now) (a .image .now) (p .0) (p .4) (omega (arith, p .1, p .2)) (getD (a .bytes .now) 0 0) (alone (a .bytes .now) (p .3 (omega arith))) (a .line .now) (inside (a .r) (a .event .now) (a .image .now) (p .0) (p .4) (λ z. omega arith) (λ z. omega arith)) (omega arith) (c .before .before .count .ensures)
+    let a = c .before .before .before .before .before .before .before .before .before .before .before .before .before .before .before .before .before .before .before .args in
+    let p = c .before .before .before .before .before .before .before .before .before .before .before .before .before .before .before .before .before .before .before .pre in
+    count-byte (a .r) (a .event .now) (a .image .now) (p .0) (p .4) (omega (arith, p .1, p .2)) (getD (a .bytes .now) 0 0) (alone (a .bytes .now) (p .3 (omega arith))) (a .out .now) (a .place) (inside (a .r) (a .event .now) (a .image .now) (p .0) (p .4) (λ z. omega arith) (λ z. omega arith)) (omega arith) (c .before .before .before .before .count .ensures)
 
 pub take-some-spec : {M : Type 1} → statement M
 take-some-spec =

@@ -2,6 +2,7 @@ use Rattle.stream.proofs.Kept.{copied}
 use Prim.Native.Nat.{ℕ}
 use mathlib.Core.Path.{_∙_, ap₂}
 use mathlib.Core.List.{List}
+use native.Mathlib.Omega.{arith}
 use lib.ListN.{length}
 use Rattle.stream.specs.Stream.{printed}
 use Rattle.stream.specs.Calls.{standing}
@@ -33,9 +34,8 @@ slice-aggregate-take-part-3 c = search needs
 take-part-requires : tie.Need-take-part-requires
 take-part-requires c κs =
     let p = c .before .before .before .before .before .before .before .before .before .before .before .before .pre in
-    let i = copied (c .before .before .before .before .before .before .before .put-text .ensures) (p .0) in
     let s = copied (c .before .before .before .before .put-text2 .ensures) (p .1) in
-    rw (i, s) (p .1, p .2, p .3)
+    rw s (p .1, p .2, omega arith)
 
 returns : tie.Need-returns
 returns c =
