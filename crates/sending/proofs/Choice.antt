@@ -1,25 +1,29 @@
 -- What a start takes: an eligible mailbox, before which no other goes.
-use Prim.Native.Nat.{ℕ, zero, suc, _<_, _≤_}
-use mathlib.Core.Path.{_≡_, refl, sym, _∙_, ap, ap₂}
-use mathlib.Core.Bool.{Bool, true, false, cond, not, _&&_, false≢true}
+use Prim.Native.Nat.{ℕ, zero, suc, _+_, _-_, _^_, _<_, _≤_}
+use mathlib.Core.Path.{_≡_, refl, sym, _∙_, ap, ap₂, subst}
+use mathlib.Core.Bool.{Bool, true, false, cond, not, _&&_, and-true, and-false, false≢true}
 use mathlib.Core.List.{List}
 use mathlib.Core.Logic.{_≢_}
+use native.Mathlib.Decide.{decLt, ℕ-discrete}
+use native.Mathlib.Nat.{add-zero, add-suc}
 use native.Mathlib.Omega.{arith}
 use lib.Dec.{eqb, ltb}
 use lib.Bits.{bitAnd}
+use lib.Pow.{pow-pos}
 use borrow.Author.Count.{below-none, below-more}
 use borrow.Author.Tests.{eqb-false, eq-eqb, ne-eqb, ltb-true, ltb-false}
-use Rattle.bits.specs.Bit.{bit, without}
-use Rattle.bits.proofs.Laws.{bit-and, bit-without}
+use Rattle.bits.specs.Bit.{bit, mask, without}
+use Rattle.bits.specs.Below.{firstBelow}
+use Rattle.bits.proofs.Laws.{bit-and, bit-mask, bit-without, bit-zero, same-below}
 use Rattle.bits.proofs.Sets.{or-l}
-use Rattle.bits.proofs.Below.{First, first-is}
+use Rattle.bits.proofs.Below.{First, first-is, first-by}
 use Rattle.registers.specs.declared.Block.{Block}
 use Rattle.registers.specs.Block.{blockOf}
 use Rattle.registers.specs.Modes.{onBus}
 use Rattle.registers.specs.Sending.{eligible}
 use Rattle.mailboxes.specs.Mailbox.{mailboxes}
 use Rattle.sending.specs.declared.Best.{Best}
-use Rattle.sending.specs.Choice.{keyAt, noneYet, better, smallestBelow, chosen, next, betterOf, considered}
+use Rattle.sending.specs.Choice.{keyAt, noneYet, better, smallestBelow, chosen, next, betterOf}
 
 -- ---- Sending: who is eligible, by bits
 
@@ -62,21 +66,103 @@ module _ (s : List ℕ) (w n : ℕ) (best : Best) (h : Carries s w n best) where
       at true e = rw e
       at false e = rw (h .key (eqb-false (best .mailbox) noneYet e))
 
-  pub carried : Carries s w (suc n) (considered s w n best)
-  unfolding considered
-  carried = at (bit w n) refl (better s n (best .mailbox)) refl
+  -- one that is named
+  pub carried : bit w n ≡ true → Carries s w (suc n) (betterOf best n (keyAt s n))
+  carried p = at (better s n (best .mailbox)) refl
     where
-      at : (t : Bool) → bit w n ≡ t → (u : Bool) → better s n (best .mailbox) ≡ u
-          → Carries s w (suc n) (considered s w n best)
-      at true p true q =
+      at : (u : Bool) → better s n (best .mailbox) ≡ u → Carries s w (suc n) (betterOf best n (keyAt s n))
+      at true q =
           let e = takes-over s w n (rw (p, ap (better s n) (sym (h .mailbox)) ∙ q)) in
-          rw (p, by-key, q) (record { mailbox = sym e; key = λ z. refl })
-      at true p false q =
+          rw (by-key, q) (record { mailbox = sym e; key = λ z. refl })
+      at false q =
           let e = stays s w n (rw (p, ap (better s n) (sym (h .mailbox)) ∙ q)) in
-          rw (p, by-key, q) (record { mailbox = h .mailbox ∙ sym e; key = h .key })
-      at false p u q =
-          let e = stays s w n (rw p) in
-          rw p (record { mailbox = h .mailbox ∙ sym e; key = h .key })
+          rw (by-key, q) (record { mailbox = h .mailbox ∙ sym e; key = h .key })
+
+-- those that are not named change nothing
+module _ (s : List ℕ) (w : ℕ) (best : Best) where
+  passed : (a d : ℕ) → ((j : ℕ) → a ≤ j → j < a + d → bit w j ≡ false) → Carries s w a best → Carries s w (a + d) best
+  passed a zero f h = rw (add-zero a) h
+  passed a (suc d) f h =
+      let k = passed a d (λ j l u. f j l (omega arith)) h in
+      let e = stays s w (a + d) (rw (f (a + d) (omega arith) (omega arith))) in
+      rw (add-suc a d) (record { mailbox = k .mailbox ∙ sym e; key = k .key })
+
+  pub passing : (a b : ℕ) → a ≤ b → ((j : ℕ) → a ≤ j → j < b → bit w j ≡ false) → Carries s w a best → Carries s w b best
+  passing a b l f h =
+      let e : a + (b - a) ≡ b = omega arith in
+      subst (λ (x : ℕ). Carries s w x best) e (passed a (b - a) (λ j k u. f j k (omega arith)) h)
+
+-- ---- the search goes from one named mailbox to the next
+
+-- what is left to look at: below its first mailbox all is done, from there on it is the word
+pub record Left (s : List ℕ) (w rest : ℕ) (best : Best) : Type 0 where
+  pub done : Carries s w (firstBelow (bit rest) 32) best
+  pub same : (j : ℕ) → firstBelow (bit rest) 32 ≤ j → bit rest j ≡ bit w j
+
+module _ (s : List ℕ) (w : ℕ) where
+  pub begins : (best : Best) → Carries s w 0 best → Left s w w best
+  begins best h =
+      let f = first-is (bit w) 32 in
+      record { done = passing s w best 0 (firstBelow (bit w) 32) (omega arith) (λ j l. f .none j) h; same = λ j l. refl }
+
+  module _ (rest : ℕ) (best : Best) (h : Left s w rest best) where
+    abbrev n : ℕ
+    n = firstBelow (bit rest) 32
+
+    abbrev after : ℕ
+    after = without rest (mask n)
+
+    after-bit : (j : ℕ) → j ≢ n → bit after j ≡ bit rest j
+    after-bit j d = bit-without rest (mask n) j ∙ rw (bit-mask n j, ne-eqb j n d) (and-true (bit rest j))
+
+    pub named : n < 32 → bit rest n ≡ true
+    named l = first-is (bit rest) 32 .holds l
+
+    -- the next one is further up
+    pub onwards : n < 32 → n < firstBelow (bit after) 32
+    onwards l = at (decLt n (firstBelow (bit after) 32))
+      where
+        f : First (bit after) 32 (firstBelow (bit after) 32)
+        f = first-is (bit after) 32
+
+        gone : (j : ℕ) → j ≤ n → bit after j ≡ false
+        gone j k = to (ℕ-discrete j n)
+          where
+            to : Dec (j ≡ n) → bit after j ≡ false
+            to (yes e) = bit-without rest (mask n) j ∙ rw (bit-mask n j, eq-eqb j n e) (and-false (bit rest j))
+            to (no d) = after-bit j d ∙ first-is (bit rest) 32 .none j (omega arith)
+
+        at : Dec (n < firstBelow (bit after) 32) → n < firstBelow (bit after) 32
+        at (yes k) = k
+        at (no k) = absurd (false≢true (sym (gone (firstBelow (bit after) 32) (omega arith)) ∙ f .holds (omega arith)))
+
+    pub goes-on : n < 32 → Left s w after (betterOf best n (keyAt s n))
+    goes-on l =
+        let m = firstBelow (bit after) 32 in
+        let k = onwards l in
+        let up = sym (h .same n (omega arith)) ∙ named l in
+        record {
+          done =
+              passing s w (betterOf best n (keyAt s n)) (suc n) m (omega arith)
+              (λ j u v. sym (h .same j (omega arith)) ∙ sym (after-bit j (λ e. omega arith)) ∙ first-is (bit after) 32 .none j v)
+              (carried s w n best (h .done) up);
+          same = λ j u. after-bit j (λ e. omega arith) ∙ h .same j (omega arith);
+        }
+
+-- a word that is not empty names a mailbox
+pub some-named : (w : ℕ) → w < 2 ^ 32 → w ≢ 0 → firstBelow (bit w) 32 < 32
+some-named w l d = at (decLt (firstBelow (bit w) 32) 32)
+  where
+    f : First (bit w) 32 (firstBelow (bit w) 32)
+    f = first-is (bit w) 32
+
+    at : Dec (firstBelow (bit w) 32 < 32) → firstBelow (bit w) 32 < 32
+    at (yes k) = k
+    at (no k) = absurd (d (same-below 32 w 0 l (pow-pos 32) (λ i u. f .none i (omega arith) ∙ sym (bit-zero i))))
+
+-- the empty word names none
+pub none-named : firstBelow (bit 0) 32 ≡ 32
+none-named = first-by (bit 0) 32 32 (record { most = omega arith; holds = λ l. absurd (omega arith); none = λ j l. bit-zero j })
 
 -- ---- the smallest key, of equal keys the lowest number
 

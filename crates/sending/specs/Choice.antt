@@ -40,6 +40,3 @@ next s = cond (onBus (blockOf s)) (chosen s (eligible (blockOf s)) (bit (blockOf
 -- The smallest so far, as the search carries it: a mailbox and its key.
 unfoldable pub betterOf : Best → ℕ → Key → Best
 betterOf best n key = cond (eqb (best .mailbox) noneYet || ltb (key .0) (best .key .0)) (record { mailbox = n; key = key }) best
-
-unfoldable pub considered : List ℕ → ℕ → ℕ → Best → Best
-considered s w n best = cond (bit w n) (betterOf best n (keyAt s n)) best

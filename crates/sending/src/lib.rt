@@ -5,7 +5,7 @@ ghost use lib.ListN.{length};
 ghost use Rattle.bits.specs.Bit.{bit};
 ghost use Rattle.bits.specs.Below.{firstBelow};
 ghost use Rattle.registers.specs.Block.{imageBytes, blockOf};
-ghost use Rattle.sending.specs.Choice.{keyAt, smallestBelow, betterOf, considered, next as nextOf};
+ghost use Rattle.sending.specs.Choice.{keyAt, smallestBelow, betterOf, next as nextOf};
 use mailboxes::Key;
 use registers::Block;
 
@@ -48,18 +48,8 @@ fn better(best: Best, n: u32, key: Key) -> Best
     }
 }
 
-fn consider(s: &[u8], w: u32, n: u32, best: Best) -> Best
-    requires { ⌜ (length (now s) ≡ imageBytes) × (n < 32) ⌝ }
-    ensures { λ r. ⌜ r ≡ considered (now (s .entry)) w n best ⌝ }
-{
-    if bits::test(w, n) {
-        better(best, n, key_at(s, n))
-    } else {
-        best
-    }
-}
-
-// The mailbox with the smallest key among those that a word names; 32 where it names none.
+// The mailbox with the smallest key among those that a word names; 32 where it names none. It goes from one that is named to the
+// next: `rest` has those that are not yet looked at.
 pub fn smallest(s: &[u8], w: u32) -> u32
     requires { ⌜ length (now s) ≡ imageBytes ⌝ }
     ensures { λ r. ⌜ r ≡ smallestBelow (now (s .entry)) w 32 ⌝ }
@@ -68,8 +58,11 @@ pub fn smallest(s: &[u8], w: u32) -> u32
         mailbox: 32,
         key: Key(0),
     };
-    for n in 0..32u32 {
-        best = consider(s, w, n, best);
+    let mut rest = w;
+    while rest != 0 {
+        let n = lowest(rest);
+        best = better(best, n, key_at(s, n));
+        rest = bits::without(rest, bits::mask(n));
     }
     best.mailbox
 }
