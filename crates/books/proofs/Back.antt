@@ -1,6 +1,6 @@
 -- The flags of a block that was put into an image are read back, whatever its words are: words are cut to their four bytes, which no
 -- bit below 32 sees. The bytes of the mailboxes keep their length, whatever the event is.
-use Prim.Native.Nat.{ℕ, zero, suc, _+_, _-_, _/_, _%_, _^_, _<_}
+use Prim.Native.Nat.{ℕ, zero, suc, _+_, _-_, _/_, _%_, _^_, _<_, _≤_}
 use mathlib.Core.Path.{_≡_, refl, _∙_, ap}
 use mathlib.Core.Bool.{not, _&&_}
 use mathlib.Core.List.{List, [], _∷_, map}
@@ -11,7 +11,7 @@ use lib.Pow.{field, mod-mod-pow}
 use Rattle.bits.specs.Bit.{bit, digit}
 use Rattle.words.specs.Word.{putWord, putWords}
 use Rattle.registers.specs.declared.Block.{Block}
-use Rattle.registers.specs.Block.{imageBytes, registersAt, emptySlot, blockOf, putBlock, ofWords, toWords}
+use Rattle.registers.specs.Block.{imageBytes, registersAt, protectionAt, emptySlot, blockOf, putBlock, ofWords, firstWords, lastWords, toWords}
 use Rattle.registers.proofs.Laws.{block-back}
 use Rattle.books.specs.Ledger.{now}
 use Rattle.books.proofs.Follows.{look}
@@ -58,12 +58,14 @@ cut-small (w ∷ ws) (suc j) = cut-small ws j
 
 put-block-cut : (s : List ℕ) (b : Block) → putBlock s b ≡ putBlock s (cutBlock b)
 unfolding putBlock
-put-block-cut s b = puts-cut s registersAt (toWords b)
+put-block-cut s b =
+    puts-cut (putWords s registersAt (firstWords b)) protectionAt (lastWords b)
+    ∙ ap (λ (x : List ℕ). putWords x protectionAt (map cut (lastWords b))) (puts-cut s registersAt (firstWords b))
 
 block-cut : (s : List ℕ) (b : Block) → length s ≡ imageBytes → blockOf (putBlock s b) ≡ cutBlock b
 block-cut s b h = ap blockOf (put-block-cut s b) ∙ block-back s (cutBlock b) h (λ j l. cut-small (toWords b) j)
 
-pub look-back : (m : ℕ) (s : List ℕ) (b : Block) → m < 32 → length s ≡ imageBytes → b .slot < 32 → look m (blockOf (putBlock s b)) ≡ look m b
+pub look-back : (m : ℕ) (s : List ℕ) (b : Block) → m < 32 → length s ≡ imageBytes → b .slot ≤ emptySlot → look m (blockOf (putBlock s b)) ≡ look m b
 look-back m s b hm h l =
     let slot : cut (b .slot) ≡ b .slot = omega arith in
     ap (look m) (block-cut s b h)

@@ -22,7 +22,7 @@ abbrev pub Fairs : Now → List Happening → Type 0
 Fairs n [] = Unit
 Fairs n (h ∷ l) = Fair n h × Fairs (after n h) l
 
-one-not : (t : Bool) → one (not t) + one t ≡ 1
+pub one-not : (t : Bool) → one (not t) + one t ≡ 1
 one-not true = refl
 one-not false = refl
 

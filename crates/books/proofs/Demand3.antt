@@ -3,7 +3,7 @@ use Prim.Native.Nat.{ℕ, _<_}
 use mathlib.Core.Path.{_≡_, refl, sym, _∙_, ap, subst}
 use mathlib.Core.Bool.{false}
 use mathlib.Core.List.{List, [], _∷_}
-use lib.Dec.{lit<}
+use lib.Dec.{lit≤}
 use Rattle.bits.proofs.Laws.{bit-zero}
 use Rattle.registers.specs.Block.{blockOf}
 use Rattle.fresh.specs.Fresh.{freshBlock, zeroImage, freshImage}
@@ -29,18 +29,19 @@ run-follows m s (e ∷ l) h =
     (run-follows m (step s e .image) l h)
 
 -- a fresh image has none of the flags
-begin : (m : ℕ) → m < 32 → flags m freshImage ≡ empty .now
+begin : (p m : ℕ) → m < 32 → flags m (freshImage p) ≡ empty .now
 unfolding freshImage freshBlock
-begin m h = look-back m zeroImage freshBlock h zero-length (lit< tt) ∙ (λ i. now (bit-zero m i) (bit-zero m i) (bit-zero m i) false (bit-zero m i))
+begin p m h =
+    look-back m zeroImage (freshBlock p) h zero-length (lit≤ tt) ∙ (λ i. now (bit-zero m i) (bit-zero m i) (bit-zero m i) false (bit-zero m i))
 
 pub demand3 : Demand3
 unfolding Demand3
-demand3 events m h =
-    let l = history m freshImage events in
-    let f = run-follows m freshImage events h in
-    let seen : flags m (left events) ≡ booked m events .now = f .seen ∙ ap (λ (n : Now). afters n l) (begin m h) ∙ sym (books-now empty l) in
+demand3 p q events m h =
+    let l = history m (freshImage p) events in
+    let f = run-follows m (freshImage p) events h in
+    let seen : flags m (left p events) ≡ booked p m events .now = f .seen ∙ ap (λ (n : Now). afters n l) (begin p m h) ∙ sym (books-now empty l) in
     record {
-      balanced = balance empty l (subst (λ (n : Now). Fairs n l) (begin m h) (f .fair)) (record { frames = refl; requests = refl });
+      balanced = balance empty l (subst (λ (n : Now). Fairs n l) (begin p m h) (f .fair)) (record { frames = refl; requests = refl });
       pending = ap (λ (n : Now). n .held) seen;
       lost = ap (λ (n : Now). n .lost) seen;
       requested = ap (λ (n : Now). n .waiting) seen;

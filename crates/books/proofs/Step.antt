@@ -1,24 +1,23 @@
 -- Each operation's block follows by its happenings; so does a whole step.
-use Prim.Native.Nat.{ℕ, _^_, _<_}
+use Prim.Native.Nat.{ℕ, _<_, _≤_}
 use mathlib.Core.Path.{_≡_, refl, sym, _∙_, ap, subst}
 use mathlib.Core.Bool.{Bool, true, false, cond, not, _&&_, _||_, false≢true, or-false, and-true}
 use mathlib.Core.List.{List, [], _∷_}
-use mathlib.Core.Logic.{_≢_}
 use native.Mathlib.Omega.{arith}
-use lib.Dec.{eqb, ltb, leb, lit<}
+use lib.Dec.{eqb, ltb, leb, lit<, lit≤}
 use lib.ListN.{getD, length}
-use borrow.Author.Tests.{eqb-true, eqb-false, ne-eqb, ltb-true, ltb-false, not-false}
+use borrow.Author.Tests.{eqb-true, eqb-false, ne-eqb, ltb-true, ltb-false, not-true, not-false}
 use Rattle.bits.specs.Bit.{bit, without}
 use Rattle.bits.specs.Tests.{every}
-use Rattle.bits.proofs.Laws.{bit-zero, bit-high}
-use Rattle.bits.proofs.Sets.{and-l, and-r}
+use Rattle.bits.proofs.Laws.{bit-zero}
+use Rattle.bits.proofs.Sets.{and-l, and-r, word-within}
 use Rattle.bits.proofs.Tests.{All, all, given}
 use Rattle.registers.specs.declared.Block.{Block}
-use Rattle.registers.specs.Block.{imageBytes, blockOf, withMc, withTa, withAa, withLam, withGam, withCdr, withMbtif, withMbrif, withMbim, withGim, withBcr1, withBcr2, withTsc, normal, noMode, busOffAt}
+use Rattle.registers.specs.Block.{imageBytes, blockOf, withMc, withTa, withAa, withLam, withGam, withCdr, withMbtif, withMbrif, withMbim, withGim, withBcr1, withBcr2, withTsc, withProtection, normal, noMode, emptySlot, busOffAt}
 use Rattle.fresh.specs.Fresh.{freshBlock}
-use Rattle.registers.specs.Status.{vacant, filled, asleep, busOff}
-use Rattle.registers.specs.Writes.{slotMask, directed, requested, cancelled, released, noted, writes, written}
-use Rattle.registers.specs.Modes.{onBus, ticked, worsened, recessive, optioned, asked, risen, ready, fallsAsleep, entered, settled}
+use Rattle.registers.specs.Status.{vacant, filled, ecan, asleep, busOff}
+use Rattle.registers.specs.Writes.{slotMask, protectionNumber, directed, requested, cancelled, released, noted, writes, written}
+use Rattle.registers.specs.Modes.{ticked, worsened, recessive, optioned, asked, risen, ready, fallsAsleep, entered, settled}
 use Rattle.registers.specs.Frames.{wakened, listened, stored, replied}
 use Rattle.registers.specs.Sending.{started, sent, failed, added, concluded}
 use Rattle.registers.proofs.Flags.{requested-trs, released-rmp, released-rml, ending-bit, late-bit, cancelled-trs, cancelled-trr, slot-bit, stored-rmp, stored-rml, replied-trs, sent-trs, sent-trr, aborting-bit, failed-trs, failed-trr}
@@ -31,14 +30,13 @@ use Rattle.filter.specs.declared.Delivery.the-variants.{Into, Reply, Nowhere}
 use Rattle.filter.specs.Filter.{delivery}
 use Rattle.filter.proofs.Ways.{into, reply}
 use Rattle.sending.specs.Choice.{next}
-use Rattle.sending.proofs.Choice.{eligible-bit, next-is, next-off}
-use Rattle.good.specs.Good.{contents, lastNeverSends, slotAsks, waitsForReason, flagClauses, numberClauses, slotClauses, goodFlags, goodNumbers, goodSlot, goodBlock, goodImage}
-use Rattle.good.proofs.Facts.{slot-below}
+use Rattle.good.specs.Good.{contents, slotAsks, waitsForReason, numberClauses, slotClauses, goodFlags, goodNumbers, goodSlot, goodBlock, goodImage}
+use Rattle.good.proofs.Facts.{slot-below, slot-up}
 use Rattle.good.proofs.Image.{good-length}
 use Rattle.answers.specs.Answer.{noMailbox, refused}
 use Rattle.refusals.specs.Refusal.{refusal, remaining}
 use Rattle.refusals.proofs.Order.{refusal-bad, refusal-good}
-use Rattle.model.specs.Step.{startedWith, own, goes, delivered, acted, blockAfter, mailboxesAfter, namedBy, named, accepted, step}
+use Rattle.model.specs.Step.{startedWith, own, goes, delivered, acted, blockAfter, besideAfter, namedBy, named, accepted, step}
 use Rattle.model.proofs.Whole.{real}
 use Rattle.books.specs.Ledger.{Happening, store, acknowledge, request, cancel, start, send, fail, sleep, reset, after}
 use Rattle.books.specs.Happen.{when, byWrite, direct, happens, happenings, inSlot}
@@ -105,7 +103,7 @@ stays-out true x e = e
 stays-out false x e = refl
 
 -- sleep: what was awake before a step (u) and is asleep after it fell asleep; without a mode to take, none does
-no-other : (u a : Bool) → (a ≡ true → u ≡ true) → (not u && a) ≡ false
+pub no-other : (u a : Bool) → (a ≡ true → u ≡ true) → (not u && a) ≡ false
 no-other true a h = refl
 no-other false true h = sym (h refl)
 no-other false false h = refl
@@ -120,9 +118,9 @@ zeroed m w false = refl
 
 -- ---- what a good image says of the slot and of sleep
 
--- the slot's number is below 32
+-- the slot's number is a mailbox's, or that of the empty slot
 abbrev Slotted : Block → Type 0
-Slotted b = b .slot < 32
+Slotted b = b .slot ≤ emptySlot
 
 -- and up to the end of a step, where u says whether the unit was asleep before it: asleep now, it was so then; and then no sleep waits
 abbrev Sound : Bool → Block → Type 0
@@ -133,27 +131,43 @@ module _ (b : Block) (g : goodBlock b ≡ true) where
   unfolding goodBlock
   groups = all (goodFlags b ∷ goodNumbers b ∷ goodSlot b ∷ []) g
 
-  -- mailbox 31 has no request
-  low : b .trs < 2 ^ 31
-  unfolding goodFlags
-  low = ltb-true _ _ (all (lastNeverSends b) (all (flagClauses b) (groups .0) .1 .0) .0)
-
   -- what is in the slot is sent in normal mode, and has its request
   asks : filled b ≡ true → All (slotAsks b)
   unfolding goodSlot
   asks f = all (slotAsks b) (given (filled b) (every (slotAsks b)) (all (slotClauses b) (groups .1 .1 .0) .1 .0) f)
 
-  sound : Sound (asleep b) b
+  slot-asks : filled b ≡ true → bit (b .trs) (b .slot) ≡ true
+  slot-asks f =
+      word-within (slotMask b) (b .trs) (eqb-true _ _ (asks f .1 .1 .0)) .has (b .slot)
+      (slot-up b (eqb-false _ _ (not-true _ f)))
+
+  numbers : All (numberClauses b)
   unfolding goodNumbers
+  numbers = all (numberClauses b) (groups .1 .0)
+
+  -- a mode waits for the slot or for bus off
+  waits-for : not (eqb (b .waiting) noMode) ≡ true → (filled b || busOff b) ≡ true
+  waits-for =
+      given (not (eqb (b .waiting) noMode)) (filled b || busOff b)
+      (and-r (leb 1 (b .waiting)) (waitsForReason b) (numbers .1 .1 .1 .1 .0))
+
+  -- so none is taken as long as both stay as they are
+  pub none-ready : ready b ≡ false
+  none-ready = not-ready (eqb (b .waiting) noMode) (vacant b) (ltb (b .tec) busOffAt) refl waits-for
+    where
+      below : ltb (b .tec) busOffAt ≡ true → busOff b ≡ true → ⊥
+      below l e = omega (arith, ltb-true (b .tec) busOffAt l, eqb-true (b .tec) busOffAt e)
+
+      not-ready : (w v l : Bool) → ltb (b .tec) busOffAt ≡ l → (not w ≡ true → (not v || busOff b) ≡ true) → (not w && (v && l)) ≡ false
+      not-ready true v l q h = refl
+      not-ready false false l q h = refl
+      not-ready false true true q h = absurd (below q (h refl))
+      not-ready false true false q h = refl
+
+  -- both are of the normal mode
+  sound : Sound (asleep b) b
   sound = (slot-below b g, λ z. z, λ z. ne-eqb (b .waiting) 2 (λ e. reason z (filled b) refl (waits-for (rw e))))
     where
-      numbers : All (numberClauses b)
-      numbers = all (numberClauses b) (groups .1 .0)
-
-      -- a mode waits for the slot or for bus off, and both are of the normal mode
-      waits-for : not (eqb (b .waiting) noMode) ≡ true → (filled b || busOff b) ≡ true
-      waits-for = given (not (eqb (b .waiting) noMode)) (filled b || busOff b) (and-r (leb 1 (b .waiting)) (waitsForReason b) (numbers .1 .1 .1 .1 .0))
-
       reason : asleep b ≡ true → (t : Bool) → filled b ≡ t → (t || busOff b) ≡ true → ⊥
       reason z true f h = omega (arith, eqb-true (b .mode) 2 z, eqb-true (b .mode) normal (asks f .0))
       reason z false f h = omega (arith, eqb-true (b .mode) 2 z, eqb-true (b .mode) normal (given (busOff b) (eqb (b .mode) normal) (numbers .1 .1 .0) h))
@@ -204,22 +218,24 @@ module _ (u : Bool) (m : ℕ) (b : Block) where
       let t = eqb m n in
       once m b (replied b n) t request (same t _) (same t _) (replied-trs b n true m ∙ or-where (bit (b .trs) m) t) (same t _) (same t _) (λ e. tt) (λ k. k)
 
-  reset-follows : Follows (Sound u) m b freshBlock (reset ∷ [])
+  reset-follows : (p : ℕ) → Follows (Sound u) m b (freshBlock p) (reset ∷ [])
   unfolding freshBlock after when
-  reset-follows = once m b freshBlock true reset (bit-zero m) (bit-zero m) (bit-zero m) refl (bit-zero m) (λ e. tt) (λ k. (lit< tt, λ z. absurd (false≢true z), λ z. refl))
+  reset-follows p =
+      once m b (freshBlock p) true reset (bit-zero m) (bit-zero m) (bit-zero m) refl (bit-zero m) (λ e. tt)
+      (λ k. (lit≤ tt, λ z. absurd (false≢true z), λ z. refl))
 
   -- the mailbox n that a start chose, or none; the slot was empty
-  start-follows : (n : ℕ) → m < 32 → vacant b ≡ true → (n < 32 → n ≢ 31) → Follows (Sound u) m b (startedWith b n) (when (eqb m n) start)
+  start-follows : (n : ℕ) → m < 32 → vacant b ≡ true → Follows (Sound u) m b (startedWith b n) (when (eqb m n) start)
   unfolding after
-  start-follows n hm z other = at (ltb n 32) refl
+  start-follows n hm z = at (ltb n 32) refl
     where
       at : (t : Bool) → ltb n 32 ≡ t → Follows (Sound u) m b (cond t (started b n) b) (when (eqb m n) start)
       at true e =
           let t = eqb m n in
           let l = ltb-true n 32 e in
           once m b (started b n) t start (same t _) (same t _) (same t _)
-          (ap (λ (u : Bool). not u && t) (ne-eqb n 31 (other l)) ∙ came t (inSlot b m) (ap (λ (u : Bool). not u && eqb m (b .slot)) z))
-          (same t _) (λ e. tt) (λ k. (l, k .1, k .2))
+          (ap (λ (u : Bool). not u && t) (ne-eqb n emptySlot (λ q. omega arith)) ∙ came t (inSlot b m) (ap (λ (u : Bool). not u && eqb m (b .slot)) z))
+          (same t _) (λ e. tt) (λ k. (omega arith, k .1, k .2))
       at false e = rw (ne-eqb m n (λ q. omega (arith, ltb-false n 32 e))) (unfold when in none m b b refl (λ k. k))
 
   -- an outcome, with a filled slot
@@ -240,7 +256,7 @@ module _ (u : Bool) (m : ℕ) (b : Block) where
         (sent-trs b m ∙ ap (λ (x : Bool). bit (b .trs) m && not x) at-slot ∙ not-where (bit (b .trs) m) here)
         emptied
         (sent-trr b m ∙ ap (λ (x : Bool). bit (b .trr) m && not x) at-slot ∙ not-where (bit (b .trr) m) here)
-        (λ e. ap (bit (b .trs)) (eqb-true m (b .slot) e) ∙ g) (λ k. (lit< tt, k .1, k .2))
+        (λ e. ap (bit (b .trs)) (eqb-true m (b .slot) e) ∙ g) (λ k. (lit≤ tt, k .1, k .2))
 
     fail-follows : (more : ℕ) → bit (b .trs) (b .slot) ≡ true → Follows (Sound u) m b (failed b more) (when here fail)
     unfolding failed after
@@ -251,7 +267,7 @@ module _ (u : Bool) (m : ℕ) (b : Block) where
         (failed-trs b m more ∙ ap (λ (x : Bool). bit (b .trs) m && not x) marked ∙ fails-where (bit (b .trs) m) here c)
         emptied
         (failed-trr b m more ∙ ap (λ (x : Bool). c && not x) marked ∙ unmarks-where c here)
-        (λ e. ap (bit (b .trs)) (eqb-true m (b .slot) e) ∙ g) (λ k. (lit< tt, k .1, k .2))
+        (λ e. ap (bit (b .trs)) (eqb-true m (b .slot) e) ∙ g) (λ k. (lit≤ tt, k .1, k .2))
 
     outcome-follows : (k : ℕ) → bit (b .trs) (b .slot) ≡ true → Follows (Sound u) m b (concluded b k) (when here (cond (eqb k 0) send fail))
     outcome-follows k g = at (eqb k 0)
@@ -263,13 +279,18 @@ module _ (u : Bool) (m : ℕ) (b : Block) where
   -- the table of writes
   write-follows : (t v : ℕ) → Follows (Sound u) m b (written b t v) (getD (byWrite (bit v m) (bit (b .md) m)) t [])
   unfolding written noted
-  write-follows t v = table m b (writes b v) (byWrite (bit v m) (bit (b .md) m)) rows t
+  write-follows t v = at (eqb t protectionNumber) refl
     where
       quiet : (c : Block) → look m c ≡ look m b → (Sound u b → Sound u c) → Follows (Sound u) m b c []
       quiet = none m b
 
       rows : Rows (Sound u) m b (writes b v) (byWrite (bit v m) (bit (b .md) m))
       rows = (quiet (withMc b v) refl (λ k. k), (quiet (directed b v) refl (λ k. k), (request-follows v, (cancel-follows v, (quiet (withTa b (without (b .ta) v)) refl (λ k. k), (quiet (withAa b (without (b .aa) v)) refl (λ k. k), (release-follows v, (quiet b refl (λ k. k), (quiet (withLam b v) refl (λ k. k), (quiet (withGam b v) refl (λ k. k), (quiet b refl (λ k. k), (quiet (withCdr b v) refl (λ k. k), (quiet (withMbtif b (without (b .mbtif) v)) refl (λ k. k), (quiet (withMbrif b (without (b .mbrif) v)) refl (λ k. k), (quiet (withMbim b v) refl (λ k. k), (quiet (noted b v) refl (λ k. k), (quiet (withGim b v) refl (λ k. k), (quiet (withBcr1 b v) refl (λ k. k), (quiet (withBcr2 b v) refl (λ k. k), (quiet (withTsc b v) refl (λ k. k), tt))))))))))))))))))))
+
+      at : (p : Bool) → eqb t protectionNumber ≡ p
+          → Follows (Sound u) m b (cond p (withProtection b v) (getD (writes b v) t b)) (getD (byWrite (bit v m) (bit (b .md) m)) t [])
+      at true e = rw (eqb-true t protectionNumber e) (quiet (withProtection b v) refl (λ k. k))
+      at false e = table m b (writes b v) (byWrite (bit v m) (bit (b .md) m)) rows t
 
   -- a mode that is asked for
   ask-follows : (v : ℕ) → (u ≡ true → asleep b ≡ true) → Follows (Sound u) m b (asked b v) []
@@ -303,7 +324,7 @@ clear true k h e = absurd (omega arith)
 clear false k h e = refl
 
 -- what wakes is no longer asleep
-still-asleep : (t : Bool) (x : ℕ) → eqb (cond t normal x) 2 ≡ true → eqb x 2 ≡ true
+pub still-asleep : (t : Bool) (x : ℕ) → eqb (cond t normal x) 2 ≡ true → eqb x 2 ≡ true
 still-asleep true x h = absurd (false≢true h)
 still-asleep false x h = h
 
@@ -337,16 +358,6 @@ module _ (m : ℕ) (hm : m < 32) (s : List ℕ) where
       (both m b (listened b) _ [] _ listen-follows (reply-follows u m (listened b) n))
   frame-follows f (Nowhere c) e = rw (ne-eqb m noMailbox (λ q. omega arith)) (unfold when in listen-follows)
 
-  -- a start chooses a mailbox with a request, so never 31
-  chosen-sends : goodBlock b ≡ true → next s < 32 → next s ≢ 31
-  chosen-sends g l q = at (onBus b) refl
-    where
-      at : (t : Bool) → onBus b ≡ t → ⊥
-      at true h =
-          let asked = and-l _ _ (and-l _ _ (and-l _ _ (sym (eligible-bit b (next s)) ∙ next-is s h .named l))) in
-          false≢true (sym (bit-high (next s) 31 (b .trs) (low b g) (omega arith)) ∙ asked)
-      at false h = omega (arith, next-off s h)
-
   acted-follows : (v : Event) → goodBlock b ≡ true → remaining s v ≡ 0
       → Follows (Sound u) m b (acted s v) (direct (eqb m (accepted s v .mailbox)) (bit (b .md) m) v m)
   unfolding own goes delivered direct accepted named remaining worsened recessive ticked
@@ -354,16 +365,16 @@ module _ (m : ℕ) (hm : m < 32) (s : List ℕ) where
   acted-follows (Register t v) g z = write-follows u m b t v
   acted-follows (Mailbox n k v) g z = none m b b refl (λ k. k)
   acted-follows (Heard f) g z = frame-follows f (delivery s f) refl
-  acted-follows Start g z = start-follows u m b (next s) hm (not-false _ (clear (filled b) 5 (lit< tt) z)) (chosen-sends g)
+  acted-follows Start g z = start-follows u m b (next s) hm (not-false _ (clear (filled b) 5 (lit< tt) z))
   acted-follows (Outcome k) g z =
       let f = ap not (clear (vacant b) 7 (lit< tt) z) in
-      outcome-follows u m b f k (asks b g f .1 .1 .0)
+      outcome-follows u m b f k (slot-asks b g f)
   acted-follows (ReceiveError v) g z = none m b (worsened b v) refl (λ k. k)
   acted-follows Recessive g z = none m b (recessive b) refl (λ k. k)
   acted-follows Tick g z = none m b (ticked b) refl (λ k. k)
   acted-follows (Mode v) g z = ask-follows u m b v (λ z. z)
   acted-follows (Options v) g z = none m b (optioned b v) refl (λ k. k)
-  acted-follows Reset g z = reset-follows u m b
+  acted-follows Reset g z = reset-follows u m b (b .profile)
 
   -- at the end GIF rises, which no book sees, and a waiting mode may be taken
   end-follows : (a c : Block) → Sound u c → Follows Slotted m c (settled (risen a c)) (when (not u && asleep (settled (risen a c))) sleep)
@@ -383,7 +394,7 @@ module _ (m : ℕ) (hm : m < 32) (s : List ℕ) where
   unfolding accepted
   left-follows v h g z =
       let p = accepted-follows v g z in
-      then m b (blockAfter s v) _ _ p (look-back m (mailboxesAfter s v) (blockAfter s v) hm (length-after s v ∙ h) (p .keeps (sound b g .0))) (λ k. k)
+      then m b (blockAfter s v) _ _ p (look-back m (besideAfter s v) (blockAfter s v) hm (length-after s v ∙ h) (p .keeps (sound b g .0))) (λ k. k)
 
 -- ---- the step, of any bytes
 
@@ -396,15 +407,16 @@ module _ (s e : List ℕ) (z : eqb (refusal s e) 0 ≡ true) where
       at true p = p
       at false p = absurd (false≢true (sym (ap (λ (n : ℕ). eqb n 0) (refusal-bad s e p)) ∙ z))
 
-  good-block : goodBlock (blockOf s) ≡ true
+  pub good-block : goodBlock (blockOf s) ≡ true
   unfolding goodImage
-  good-block = all (contents s) (and-r (eqb (length s) imageBytes) (every (contents s)) good-image) .1 .1 .0
+  good-block = all (contents s) (and-r (eqb (length s) imageBytes) (every (contents s)) good-image) .1 .1 .1 .0
 
   left-over : remaining s (event e) ≡ 0
   left-over =
       let a = asleep (blockOf s) in
-      let l : remaining s (decoded a e) ≡ 0 = sym (refusal-good s e good-image) ∙ eqb-true _ _ z in
-      ap (remaining s) (sym (real s a e l)) ∙ l
+      let p = ecan (blockOf s) in
+      let l : remaining s (decoded a p e) ≡ 0 = sym (refusal-good s e good-image) ∙ eqb-true _ _ z in
+      ap (remaining s) (sym (real s a p e l)) ∙ l
 
 pub step-follows : (s e : List ℕ) (m : ℕ) → m < 32 → Follows Any m (blockOf s) (blockOf (step s e .image)) (happenings s e m)
 unfolding step happenings

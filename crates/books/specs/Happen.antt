@@ -1,5 +1,5 @@
 -- What happens at mailbox m in a step, from the event and its answer; runs of steps, their books, and what is claimed of them.
-use Prim.Native.Nat.{ℕ, _<_}
+use Prim.Native.Nat.{ℕ, _<_, _≤_}
 use mathlib.Core.Path.{_≡_}
 use mathlib.Core.Bool.{Bool, cond, not, _&&_}
 use mathlib.Core.List.{List, [], _∷_, _++_}
@@ -7,7 +7,7 @@ use lib.Dec.{eqb}
 use lib.ListN.{getD}
 use Rattle.bits.specs.Bit.{bit}
 use Rattle.registers.specs.declared.Block.{Block}
-use Rattle.registers.specs.Block.{blockOf}
+use Rattle.registers.specs.Block.{blockOf, eCan}
 use Rattle.registers.specs.Status.{filled, asleep}
 use Rattle.mailboxes.specs.Mailbox.{mailboxes}
 use Rattle.events.specs.declared.Event.{Event}
@@ -70,12 +70,12 @@ unfoldable pub history : ℕ → List ℕ → List (List ℕ) → List Happening
 history m s [] = []
 history m s (e ∷ l) = happenings s e m ++ history m (step s e .image) l
 
--- The image that the events leave of a fresh model, and the book of mailbox m, which began empty.
-abbrev pub left : List (List ℕ) → List ℕ
-left events = run freshImage events
+-- The image that the events leave of a fresh model of a profile, and the book of mailbox m, which began empty.
+abbrev pub left : ℕ → List (List ℕ) → List ℕ
+left profile events = run (freshImage profile) events
 
-abbrev pub booked : ℕ → List (List ℕ) → Book
-booked m events = books empty (history m freshImage events)
+abbrev pub booked : ℕ → ℕ → List (List ℕ) → Book
+booked profile m events = books empty (history m (freshImage profile) events)
 
 -- ---- what is claimed
 
@@ -87,9 +87,11 @@ pub record Kept (m : ℕ) (s : List ℕ) (k : Book) : Type 0 where
   pub lost : bit (blockOf s .rml) m ≡ k .now .lost
   pub requested : bit (blockOf s .trs) m ≡ k .now .waiting
 
--- Demand 3: after any events of any bytes, from a fresh model, for every mailbox.
+-- Demand 3: in either profile, after any events of any bytes from a fresh model, for every mailbox.
 unfoldable pub Demand3 : Type 0
-Demand3 = (events : List (List ℕ)) (m : ℕ) → m < mailboxes → Kept m (left events) (booked m events)
+Demand3 =
+    (profile : ℕ) → profile ≤ eCan → (events : List (List ℕ)) (m : ℕ) → m < mailboxes
+    → Kept m (left profile events) (booked profile m events)
 
 -- Is mailbox m in the slot?
 abbrev pub inSlot : Block → ℕ → Bool

@@ -10,19 +10,19 @@ use Rattle.answers.specs.Answer.{packedReading}
 use Rattle.mailboxes.specs.declared.Identifier.{Identifier}
 use Rattle.mailboxes.specs.Arbitration.{keyOf}
 use Rattle.words.specs.Word.{wordAt, putWord, wordsOf, putWords}
-use Rattle.registers.specs.Block.{blockOf, putBlock}
+use Rattle.registers.specs.Block.{blockOf, putBlock, canB}
 use Rattle.registers.specs.Modes.{ticked, risen, entered, settled}
 use Rattle.registers.specs.Frames.{listened}
 use Rattle.registers.specs.Sending.{failed}
 use Rattle.mailboxes.specs.Mailbox.{mailbox, withMailbox, layout}
 use Rattle.events.specs.Parts.{plainEvent, quiet, frameOf, frameAllowed}
-use Rattle.filter.specs.Filter.{candidates, matches, hits, found, placed, delivery}
-use Rattle.good.specs.Good.{goodFlags, goodNumbers, goodSlot, goodBlock, goodLayouts, goodSpare, goodImage}
+use Rattle.filter.specs.Filter.{seat, candidates, matches, guarded, takes, hits, found, placed, delivery}
+use Rattle.good.specs.Good.{goodFlags, goodNumbers, goodSlot, goodBlock, goodLayouts, goodSpare, goodMasks, goodImage}
 use Rattle.refusals.specs.Refusal.{busy, locked, pointless, refusal}
 use Rattle.fresh.specs.Fresh.{freshBlock, zeroImage, freshImage}
 use Rattle.reading.specs.Gsr.{gsr}
-use Rattle.reading.specs.Read.{value, read}
-use Rattle.model.specs.Step.{own, goes, delivered, blockAfter, stowed, mailboxesAfter, named, accepted, step}
+use Rattle.reading.specs.Read.{placeOf, value, read}
+use Rattle.model.specs.Step.{own, goes, delivered, blockAfter, stowed, besideAfter, named, accepted, step}
 
 -- What the model gives, beside the number that document 01 marks.
 pub record Row : Type 0 where
@@ -41,7 +41,7 @@ abbrev pub with : ℕ → ℕ → List ℕ → List ℕ
 with word value s = putWord s (512 + 4 * word) value
 
 abbrev pub normal : List ℕ
-normal = with 22 0 freshImage
+normal = with 22 0 (freshImage canB)
 
 abbrev pub sending : List ℕ
 sending = with 0 1 (with 2 1 (with 24 0 normal))
@@ -59,9 +59,9 @@ table =
     row (keyOf identifier123 false false .0) 0x24600000
     ∷ row (keyOf identifier123 false true .0) 0x24700000
     ∷ row (keyOf identifier123 true false .0) 0x24780000
-    ∷ row (reads freshImage 32) 0x1F080
+    ∷ row (reads (freshImage canB) 32) 0x1F080
     ∷ row (reads normal 32) 0x1F000
-    ∷ row (reads (with 22 3 freshImage) 32) 0x1F100
+    ∷ row (reads (with 22 3 (freshImage canB)) 32) 0x1F100
     ∷ row (after (with 20 248 sending) 4 2 20) 256
     ∷ row (after (with 20 247 sending) 4 2 20) 255
     ∷ row (reads (with 20 96 normal) 32) 0x1F000
@@ -76,5 +76,5 @@ agrees (r ∷ l) = eqb (r .gives) (r .says) && agrees l
 
 -- Marked numbers: every row agrees.
 pub marked : agrees table ≡ true
-unfolding digit allBelow countBelow firstBelow wordAt putWord wordsOf putWords blockOf putBlock freshBlock zeroImage freshImage listened ticked failed risen entered settled mailbox withMailbox layout quiet frameOf frameAllowed candidates matches hits found placed delivery goodFlags goodNumbers goodSlot goodBlock goodLayouts goodSpare goodImage busy locked pointless refusal own goes delivered blockAfter stowed mailboxesAfter named accepted step gsr value read keyOf table agrees
+unfolding digit allBelow countBelow firstBelow wordAt putWord wordsOf putWords blockOf putBlock freshBlock zeroImage freshImage listened ticked failed risen entered settled mailbox withMailbox layout quiet frameOf frameAllowed seat candidates matches guarded takes hits found placed delivery goodFlags goodNumbers goodSlot goodBlock goodLayouts goodSpare goodMasks goodImage busy locked pointless refusal own goes delivered blockAfter stowed besideAfter named accepted step gsr placeOf value read keyOf table agrees
 marked = refl

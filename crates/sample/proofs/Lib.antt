@@ -1,3 +1,4 @@
--- A run that stays good (Pass); the books of this one, computed (Example).
+-- Runs that stay good (Pass); the books of the first, computed (Example); what is seen of the other (Overload).
 pub mod Pass
 pub mod Example
+pub mod Overload

@@ -1,7 +1,7 @@
 -- A run without the test whether the image is good: from a good image, with events of bytes, it stays good. So the checker need not
 -- compute that test at every step.
 use Prim.Native.Nat.{ℕ, zero, suc, _+_, _/_, _%_}
-use mathlib.Core.Path.{_≡_, refl, _∙_, ap}
+use mathlib.Core.Path.{_≡_, refl, _∙_, ap, ap₂}
 use mathlib.Core.Bool.{Bool, true, false, cond, _&&_}
 use mathlib.Core.List.{List, [], _∷_, _++_}
 use native.Mathlib.Omega.{arith}
@@ -11,18 +11,21 @@ use borrow.Author.Tests.{ltb-true}
 use Rattle.bits.proofs.Sets.{and-l, and-r}
 use Rattle.words.specs.Word.{putWord, putWords}
 use Rattle.words.proofs.Bytes.{Bytes, bytes-nil, bytes-cons}
-use Rattle.registers.specs.Block.{registersAt, toWords, blockOf, putBlock}
-use Rattle.registers.specs.Status.{asleep}
+use Rattle.registers.specs.Block.{registersAt, protectionAt, blockOf, putBlock, firstWords, lastWords}
+use Rattle.registers.specs.Status.{ecan, asleep}
 use Rattle.events.specs.declared.Event.{Event}
+use Rattle.events.specs.declared.Frame.{Frame}
 use Rattle.events.specs.Decode.{event, decoded}
 use Rattle.good.proofs.Image.{GoodImage, image-good}
 use Rattle.refusals.specs.Refusal.{refusal, remaining}
 use Rattle.refusals.proofs.Order.{refusal-good}
-use Rattle.answers.specs.Answer.{refused}
-use Rattle.model.specs.Step.{blockAfter, mailboxesAfter, accepted, step}
+use Rattle.answers.specs.Answer.{Outcome, noMailbox, refused}
+use Rattle.model.specs.Step.{goes, blockAfter, besideAfter, countOf, named, accepted, step}
 use Rattle.model.proofs.Kept.{step-good}
-use Rattle.books.specs.Ledger.{Happening}
+use Rattle.books.specs.Ledger.{Happening, one}
 use Rattle.books.specs.Happen.{happens, happenings, history}
+use Rattle.books.specs.Frames.{isFrame, brings, framesIn}
+use Rattle.sample.specs.Overload.{Seen, seen, seenOf, watch}
 
 -- ---- words put into a list in one walk, where putWords walks it for every byte
 
@@ -82,18 +85,37 @@ in-one-walk (a ∷ s) (suc at) ws = puts-behind a s at ws ∙ ap (λ (l : List �
 -- ---- the run
 
 abbrev pub onward : List ℕ → Event → List ℕ
-onward s e = walked (mailboxesAfter s e) registersAt (toWords (blockAfter s e))
+onward s e = walked (walked (besideAfter s e) registersAt (firstWords (blockAfter s e))) protectionAt (lastWords (blockAfter s e))
 
 goes-onward : (s : List ℕ) (e : Event) → accepted s e .image ≡ onward s e
 unfolding accepted putBlock
-goes-onward s e = in-one-walk (mailboxesAfter s e) registersAt (toWords (blockAfter s e))
+goes-onward s e =
+    let b = blockAfter s e in
+    in-one-walk (putWords (besideAfter s e) registersAt (firstWords b)) protectionAt (lastWords b)
+    ∙ ap (λ (x : List ℕ). walked x protectionAt (lastWords b)) (in-one-walk (besideAfter s e) registersAt (firstWords b))
 
 abbrev pub taken : List ℕ → List ℕ → Bool
-taken s e = eqb (remaining s (decoded (asleep (blockOf s)) e)) 0
+taken s e = eqb (remaining s (decoded (asleep (blockOf s)) (ecan (blockOf s)) e)) 0
 
+abbrev pub quick : List ℕ → List ℕ → List ℕ
+quick s e = cond (taken s e) (onward s (event e)) s
+
+-- the happenings at a mailbox, the frames that pass a test, and what is seen, by such steps
 unfoldable pub pass : ℕ → List ℕ → List (List ℕ) → List Happening
 pass m s [] = []
-pass m s (e ∷ l) = cond (taken s e) (happens s (event e) m ++ pass m (onward s (event e)) l) (pass m s l)
+pass m s (e ∷ l) = cond (taken s e) (happens s (event e) m) [] ++ pass m (quick s e) l
+
+unfoldable pub tally : (List ℕ → Frame → Bool) → List ℕ → List (List ℕ) → ℕ
+tally test s [] = 0
+tally test s (e ∷ l) = one (taken s e && isFrame (test s) (event e)) + tally test (quick s e) l
+
+abbrev pub glance : List ℕ → List ℕ → Seen
+glance s e =
+    seen (cond (taken s e) (named s (event e)) noMailbox) (cond (taken s e) (countOf (goes s (event e))) 0) (blockOf (quick s e) .rmp) (blockOf (quick s e) .rml)
+
+unfoldable pub glances : List ℕ → List (List ℕ) → List Seen
+glances s [] = []
+glances s (e ∷ l) = glance s e ∷ glances (quick s e) l
 
 abbrev pub AllBytes : List (List ℕ) → Type 0
 AllBytes [] = Unit
@@ -116,20 +138,55 @@ pub are-bytes : (l : List (List ℕ)) → areBytes l ≡ true → AllBytes l
 are-bytes [] h = tt
 are-bytes (e ∷ l) h = (is-bytes e (and-l (isBytes e) (areBytes l) h), are-bytes l (and-r (isBytes e) (areBytes l) h))
 
--- one event, taken or not, and the rest of the run
-one : (m : ℕ) (s e : List ℕ) (l : List (List ℕ)) (t : Bool)
-    → history m (cond t (accepted s (event e)) (refused s (refusal s e)) .image) l ≡ pass m (cond t (accepted s (event e)) (refused s (refusal s e)) .image) l
-    → (cond t (happens s (event e) m) [] ++ history m (cond t (accepted s (event e)) (refused s (refusal s e)) .image) l)
-    ≡ cond t (happens s (event e) m ++ pass m (onward s (event e)) l) (pass m s l)
-one m s e l true h =
-    ap (λ (r : List Happening). happens s (event e) m ++ r) (h ∙ ap (λ (x : List ℕ). pass m x l) (goes-onward s (event e)))
-one m s e l false h = h
+-- a good image is taken one step further
+module _ (s e : List ℕ) (g : GoodImage s) where
+  as-taken : eqb (refusal s e) 0 ≡ taken s e
+  as-taken = ap (λ (r : ℕ). eqb r 0) (refusal-good s e (image-good s g))
+
+  by-taken : step s e ≡ cond (taken s e) (accepted s (event e)) (refused s (refusal s e))
+  unfolding step
+  by-taken = ap (λ (t : Bool). cond t (accepted s (event e)) (refused s (refusal s e))) as-taken
+
+  goes-quick : step s e .image ≡ quick s e
+  goes-quick = ap (λ (o : Outcome). o .image) by-taken ∙ at (taken s e)
+    where
+      at : (t : Bool) → cond t (accepted s (event e)) (refused s (refusal s e)) .image ≡ cond t (onward s (event e)) s
+      at true = goes-onward s (event e)
+      at false = refl
+
+  at-a-glance : seenOf (step s e) ≡ glance s e
+  unfolding accepted
+  at-a-glance = ap seenOf by-taken ∙ at (taken s e)
+    where
+      v : Event
+      v = event e
+
+      at : (t : Bool) → seenOf (cond t (accepted s v) (refused s (refusal s e)))
+          ≡ seen (cond t (named s v) noMailbox) (cond t (countOf (goes s v)) 0) (blockOf (cond t (onward s v) s) .rmp) (blockOf (cond t (onward s v) s) .rml)
+      at true = ap (λ (x : List ℕ). seen (named s v) (countOf (goes s v)) (blockOf x .rmp) (blockOf x .rml)) (goes-onward s v)
+      at false = refl
+
+  goes-on : Bytes e → GoodImage (step s e .image)
+  goes-on b = step-good s e (g .bytes) b (image-good s g)
 
 pub in-one-pass : (m : ℕ) (s : List ℕ) (l : List (List ℕ)) → GoodImage s → AllBytes l → history m s l ≡ pass m s l
-unfolding history happenings step pass
+unfolding history happenings pass
 in-one-pass m s [] g b = refl
 in-one-pass m s (e ∷ l) g b =
-    let same : eqb (refusal s e) 0 ≡ taken s e = ap (λ (r : ℕ). eqb r 0) (refusal-good s e (image-good s g)) in
-    one m s e l (eqb (refusal s e) 0)
-    (in-one-pass m (step s e .image) l (step-good s e (g .bytes) (b .0) (image-good s g)) (b .1))
-    ∙ ap (λ (t : Bool). cond t (happens s (event e) m ++ pass m (onward s (event e)) l) (pass m s l)) same
+    ap (λ (t : Bool). cond t (happens s (event e) m) [] ++ history m (step s e .image) l) (as-taken s e g)
+    ∙ ap (λ (r : List Happening). cond (taken s e) (happens s (event e) m) [] ++ r)
+    (in-one-pass m (step s e .image) l (goes-on s e g (b .0)) (b .1) ∙ ap (λ (x : List ℕ). pass m x l) (goes-quick s e g))
+
+pub in-one-tally : (test : List ℕ → Frame → Bool) (s : List ℕ) (l : List (List ℕ)) → GoodImage s → AllBytes l → framesIn test s l ≡ tally test s l
+unfolding framesIn brings tally
+in-one-tally test s [] g b = refl
+in-one-tally test s (e ∷ l) g b =
+    ap₂ (λ (t : Bool) (n : ℕ). one (t && isFrame (test s) (event e)) + n) (as-taken s e g)
+    (in-one-tally test (step s e .image) l (goes-on s e g (b .0)) (b .1) ∙ ap (λ (x : List ℕ). tally test x l) (goes-quick s e g))
+
+pub in-one-watch : (s : List ℕ) (l : List (List ℕ)) → GoodImage s → AllBytes l → watch s l ≡ glances s l
+unfolding watch glances
+in-one-watch s [] g b = refl
+in-one-watch s (e ∷ l) g b =
+    ap₂ (λ (x : Seen) (r : List Seen). x ∷ r) (at-a-glance s e g)
+    (in-one-watch (step s e .image) l (goes-on s e g (b .0)) (b .1) ∙ ap (λ (x : List ℕ). glances x l) (goes-quick s e g))
