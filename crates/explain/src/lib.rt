@@ -8,11 +8,14 @@ ghost use Rattle.registers.specs.Block.{imageBytes, blockOf};
 ghost use Rattle.registers.specs.Status.{busOff};
 ghost use Rattle.texts.specs.Text.{Put};
 ghost use Rattle.answers.specs.Answer.{Fitted};
-ghost use Rattle.filter.specs.Filter.{seat as seatOf, maskFor, guarded};
+ghost use Rattle.filter.specs.Filter.{seat as seatOf, maskFor};
 ghost use Rattle.explain.specs.Explain.{number as numberOf, bitNumber as bitNumberOf, matchReason, comparedReason, lines, unheard, lineBytes, listBytes, ExplainCall};
 ghost use Rattle.explain.specs.Terms.{reasonBy, explainedBy};
 use events::Frame;
 use registers::Block;
+
+// Room for any lines: a mailbox has one at most.
+const LONGEST: usize = 256;
 
 // The reasons. The bit is one of word 0; the state is the mode, or 4 in bus off.
 pub enum Reason {
@@ -60,31 +63,12 @@ fn bit_number(why: Reason) -> u8
     }
 }
 
-// The mailbox at place k of the search.
-fn seat(b: Block, k: u32) -> u32
-    requires { ⌜ k < 32 ⌝ }
-    ensures { λ r. ⌜ r ≡ seatOf b k ⌝ }
-{
-    bits::choose(b.is_ecan(), 31 - k, k)
-}
-
 // The mask of mailbox n.
 fn mask_of(s: &[u8], b: Block, n: u32) -> u32
     requires { ⌜ (length (now s) ≡ imageBytes) × (n < 32) ⌝ }
     ensures { λ r. ⌜ r ≡ maskFor (now (s .entry)) b n ⌝ }
 {
-    if b.is_ecan() {
-        return words::word_at(s, registers::MASKS_AT + 4 * (n as usize));
-    }
-    bits::choose(n == 31, b.lam, b.gam)
-}
-
-// Does mailbox n pass a matching frame over?
-fn is_guarded(b: Block, n: u32) -> bool
-    requires { ⌜ n < 32 ⌝ }
-    ensures { λ r. ⌜ r ≡ bit (guarded b) n ⌝ }
-{
-    bits::test(bits::choose(b.is_ecan(), b.protection & b.rmp & b.md, 0), n)
+    filter::mask_at(s, b, bits::choose(n == 31, b.lam, b.gam), n)
 }
 
 // The reason of a mailbox that matches.
@@ -125,7 +109,7 @@ fn reason_at(s: &[u8], b: Block, f: Frame, n: u32) -> Reason
         return Reason::Transmits;
     }
     let differing = filter::differing(mask_of(s, b, n), f, mailboxes::word(s, n as usize, 0));
-    judge(differing, is_guarded(b, n))
+    judge(differing, bits::test(filter::guarded(b), n))
 }
 
 // Two words: mailbox, reason and bit number in three bytes of the first, and zeros.
@@ -147,7 +131,7 @@ fn put_lines(s: &[u8], b: Block, f: Frame, list: &mut [u8]) -> usize
     let mut at: usize = 0;
     let mut k: u32 = 0;
     while k < 32 {
-        let n = seat(b, k);
+        let n = filter::seat(b, k);
         let reason = reason_at(s, b, f, n);
         at = put_line(
             list,
@@ -195,14 +179,26 @@ fn put_explanation(s: &[u8], f: Frame, list: &mut [u8]) -> usize
     }
 }
 
-// The same, where they fit. A mailbox has one line at most, so 256 bytes are room for any.
-fn tell(s: &[u8], f: Frame, list: &mut [u8]) -> u64
+// The same, where they may not fit.
+fn tell_if_they_fit(s: &[u8], f: Frame, list: &mut [u8]) -> u64
     requires { ⌜ (length (now s) ≡ imageBytes) × (blockOf (now s) .mode ≤ 3) × (f .id .0 < 536870912) ⌝ }
     ensures { λ r. ⌜ Fitted (length (explainedBy (now (s .entry)) f)) (listBytes (explainedBy (now (s .entry)) f)) (now (list .entry)) (now (list .exit)) r ⌝ }
 {
     let mut apart = [0u8; 256];
     let end = put_explanation(s, f, &mut apart);
     texts::tell(list, &apart[..end], (end / 8) as u32)
+}
+
+// The same, in any bytes. Those that have room for any lines need none apart.
+fn tell(s: &[u8], f: Frame, list: &mut [u8]) -> u64
+    requires { ⌜ (length (now s) ≡ imageBytes) × (blockOf (now s) .mode ≤ 3) × (f .id .0 < 536870912) ⌝ }
+    ensures { λ r. ⌜ Fitted (length (explainedBy (now (s .entry)) f)) (listBytes (explainedBy (now (s .entry)) f)) (now (list .entry)) (now (list .exit)) r ⌝ }
+{
+    if list.len() < LONGEST {
+        return tell_if_they_fit(s, f, list);
+    }
+    let end = put_explanation(s, f, list);
+    answers::pack(0, 32, (end / 8) as u32)
 }
 
 // Any bytes: the lines of the frame, or a refusal that writes nothing.

@@ -64,7 +64,7 @@ fn agrees(mask: u32, f: Frame, w: u32) -> bool
 }
 
 // The mailbox at place k of the search.
-fn seat(b: Block, k: u32) -> u32
+pub fn seat(b: Block, k: u32) -> u32
     requires { ⌜ k < 32 ⌝ }
     ensures { λ r. ⌜ r ≡ seatOf b k ⌝ }
 {
@@ -72,7 +72,7 @@ fn seat(b: Block, k: u32) -> u32
 }
 
 // The mask of mailbox n, where `own` is that of a CAN-B.
-fn mask_at(s: &[u8], b: Block, own: u32, n: u32) -> u32
+pub fn mask_at(s: &[u8], b: Block, own: u32, n: u32) -> u32
     requires { ⌜ (length (now s) ≡ imageBytes) × (n < 32) ⌝ }
     ensures { λ r. ⌜ r ≡ cond (ecan b) (maskWord (now (s .entry)) n) own ⌝ }
 {
@@ -83,7 +83,7 @@ fn mask_at(s: &[u8], b: Block, own: u32, n: u32) -> u32
 }
 
 // The mailboxes that pass a matching frame over.
-fn guarded(b: Block) -> u32
+pub fn guarded(b: Block) -> u32
     ensures { λ r. ⌜ r ≡ guardedOf b ⌝ }
 {
     bits::choose(b.is_ecan(), b.protection & b.rmp & b.md, 0)

@@ -7,8 +7,8 @@ ghost use lib.ListN.{length};
 ghost use Rattle.words.specs.Word.{wordAt};
 ghost use Rattle.registers.specs.Block.{imageBytes, emptySlot};
 ghost use Rattle.mailboxes.specs.Mailbox.{layout, wordLayout};
-ghost use Rattle.good.specs.Good.{goodFlags, goodNumbers, goodSlot, goodBlock, goodLayouts, goodSpare, goodMask, goodMasks, goodImage};
-ghost use Rattle.good.specs.Gathered.{clean, Stretch, bare};
+ghost use Rattle.good.specs.Good.{goodFlags, goodNumbers, goodSlot, goodBlock, goodLayouts, goodSpare, goodMasks, goodImage};
+ghost use Rattle.good.specs.Gathered.{clean, Stretch, bare, goodPair};
 use registers::Block;
 use registers::CAN_B;
 use registers::E_CAN;
@@ -177,20 +177,35 @@ fn good_spare(s: &[u8]) -> bool
     are_zero(s, 632)
 }
 
-// The masks of mailboxes n and n + 1 as one number; `|` of such numbers has bits 30 and 29 of a mask where one of them has.
-fn mask_two(s: &[u8], n: usize) -> u64
-    requires { ⌜ (length (now s) ≡ imageBytes) × (n + 2 ≤ 32) ⌝ }
-    ensures { λ r. ⌜ Stretch (goodMask (now (s .entry))) n (n + 2) (bare r) ⌝ }
+// The masks of two mailboxes as one number; `|` of such numbers has bits 30 and 29 of a mask where one of them has. Of the 16 pairs
+// every other one comes first, then those between: where neighbours are joined the compiler takes vectors, which cost more.
+fn pair(s: &[u8], k: usize) -> u64
+    requires { ⌜ (length (now s) ≡ imageBytes) × (k < 16) ⌝ }
+    ensures { λ r. ⌜ bare r ≡ goodPair (now (s .entry)) k ⌝ }
 {
-    words::word_at(s, registers::MASKS_AT + 4 * n) as u64
-        + 4294967296 * (words::word_at(s, registers::MASKS_AT + 4 * n + 4) as u64)
+    let at = registers::MASKS_AT + 8 * (k % 8 * 2 + k / 8);
+    words::word_at(s, at) as u64 + 4294967296 * (words::word_at(s, at + 4) as u64)
 }
 
-fn mask_four(s: &[u8], n: usize) -> u64
-    requires { ⌜ (length (now s) ≡ imageBytes) × (n + 4 ≤ 32) ⌝ }
-    ensures { λ r. ⌜ Stretch (goodMask (now (s .entry))) n (n + 4) (bare r) ⌝ }
+fn two_pairs(s: &[u8], k: usize) -> u64
+    requires { ⌜ (length (now s) ≡ imageBytes) × (k + 2 ≤ 16) ⌝ }
+    ensures { λ r. ⌜ Stretch (goodPair (now (s .entry))) k (k + 2) (bare r) ⌝ }
 {
-    mask_two(s, n) | mask_two(s, n + 2)
+    pair(s, k) | pair(s, k + 1)
+}
+
+fn four_pairs(s: &[u8], k: usize) -> u64
+    requires { ⌜ (length (now s) ≡ imageBytes) × (k + 4 ≤ 16) ⌝ }
+    ensures { λ r. ⌜ Stretch (goodPair (now (s .entry))) k (k + 4) (bare r) ⌝ }
+{
+    two_pairs(s, k) | two_pairs(s, k + 2)
+}
+
+fn eight_pairs(s: &[u8], k: usize) -> u64
+    requires { ⌜ (length (now s) ≡ imageBytes) × (k + 8 ≤ 16) ⌝ }
+    ensures { λ r. ⌜ Stretch (goodPair (now (s .entry))) k (k + 8) (bare r) ⌝ }
+{
+    four_pairs(s, k) | four_pairs(s, k + 4)
 }
 
 fn is_bare(x: u64) -> bool
@@ -199,20 +214,20 @@ fn is_bare(x: u64) -> bool
     (x / 536870912 % 4 == 0) & (x / 2305843009213693952 % 4 == 0)
 }
 
-// The mask of every mailbox, four at a time: with more between two branches the compiler takes vectors, which cost more.
+// The mask of every mailbox, half of the pairs at a time.
 fn good_masks(s: &[u8]) -> bool
     requires { ⌜ length (now s) ≡ imageBytes ⌝ }
     ensures { λ r. ⌜ r ≡ goodMasks (now (s .entry)) ⌝ }
 {
-    let mut n: usize = 0;
+    let mut k: usize = 0;
     loop {
-        if n == 32 {
+        if k == 16 {
             break true;
         }
-        if !is_bare(mask_four(s, n)) {
+        if !is_bare(eight_pairs(s, k)) {
             break false;
         }
-        n += 4;
+        k += 8;
     }
 }
 

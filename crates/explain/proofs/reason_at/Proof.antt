@@ -61,22 +61,25 @@ word-requires c κs = search needs
 differing-requires : tie.Need-differing-requires
 differing-requires c κs = search needs
 
-is-guarded-requires : tie.Need-is-guarded-requires
-is-guarded-requires c κs = search needs
+guarded-requires : tie.Need-guarded-requires
+guarded-requires c κs = search needs
+
+test-requires-3 : tie.Need-test-requires-3
+test-requires-3 c κs = search needs
 
 judge-requires : tie.Need-judge-requires
 judge-requires c κs =
-    let d = c .before in
+    let d = c .before .before in
     let a = d .before .before .before .before .before .before .before .before .before .args in
     (ap (λ (x : ℕ). bit x 30) (differed d) ∙ gap-30 (a .s .now) (a .f) (a .n), ap (λ (x : ℕ). bit x 29) (differed d) ∙ gap-29 (a .s .now) (a .f) (a .n))
 
 returns-3 : tie.Need-returns-3
 returns-3 c =
-    let t = c .before .before .before .before .before in
+    let t = c .before .before .before .before .before .before in
     let s = t .before .before .before .before .before .before in
-    let g = c .before .is-guarded .ensures ∙ ap (λ (b : Block). bit (guarded b) (s .args .n)) (s .pre .1) in
+    let g = c .before .test3 .ensures ∙ ap (λ (w : ℕ). bit w (s .args .n)) (c .before .before .guarded .ensures ∙ ap guarded (s .pre .1)) in
     c .judge .ensures
-    ∙ (λ i. comparedReason (g i) (bit (differed (c .before .before) i)))
+    ∙ (λ i. comparedReason (g i) (bit (differed (c .before .before .before) i)))
     ∙ sym (is-compared (s .args .s .now) (s .args .f) (s .args .n) (is-enabled (t .before .before .before)) (receives (t .before .before) ∙ not-false _ (t .if2 .left)))
 
 pub reason-at-spec : {M : Type 1} → statement M
@@ -90,6 +93,7 @@ reason-at-spec =
     mask-of-requires
     word-requires
     differing-requires
-    is-guarded-requires
+    guarded-requires
+    test-requires-3
     judge-requires
     returns-3)

@@ -1,21 +1,26 @@
-use Prim.Native.Nat.{_+_, _*_, _^_, _<_}
-use mathlib.Core.Path.{_≡_, _∙_, ap}
+use Prim.Native.Nat.{ℕ, _+_, _*_, _/_, _%_, _^_, _<_}
+use mathlib.Core.Path.{_≡_, _∙_, ap, ap₂}
+use mathlib.Core.Bool.{_&&_}
 use native.Mathlib.Omega.{arith}
 use Rattle.bits.specs.Tests.{gapDown}
 use Rattle.words.specs.Word.{wordAt}
 use Rattle.registers.specs.Block.{masksAt}
-use Rattle.good.specs.Good.{goodMask}
-use Rattle.good.proofs.Stretches.{alone, joins}
 use Rattle.good.proofs.Masks.{bare-pair}
 use borrow.Author.Needs.{needs}
-use Rattle.good.proofs.mask_two.Statement.{statement}
-use Rattle.good.proofs.mask_two.Tie as tie
+use Rattle.good.proofs.pair.Statement.{statement}
+use Rattle.good.proofs.pair.Tie as tie
 
-mul-word-at : tie.Need-mul-word-at
-mul-word-at c = search needs
+mul-at : tie.Need-mul-at
+mul-at c = search needs
 
-add-word-at : tie.Need-add-word-at
-add-word-at c = search needs
+add-at : tie.Need-add-at
+add-at c = search needs
+
+mul-at-2 : tie.Need-mul-at-2
+mul-at-2 c = search needs
+
+add-at-2 : tie.Need-add-at-2
+add-at-2 c = search needs
 
 word-at-requires : tie.Need-word-at-requires
 word-at-requires c κs = search needs
@@ -23,14 +28,8 @@ word-at-requires c κs = search needs
 cast-result : tie.Need-cast-result
 cast-result c = search needs
 
-mul-word-at-2 : tie.Need-mul-word-at-2
-mul-word-at-2 c = search needs
-
-add-word-at-2 : tie.Need-add-word-at-2
-add-word-at-2 c = search needs
-
-add-word-at-3 : tie.Need-add-word-at-3
-add-word-at-3 c = search needs
+add-word-at : tie.Need-add-word-at
+add-word-at c = search needs
 
 word-at-requires-2 : tie.Need-word-at-requires-2
 word-at-requires-2 c κs = search needs
@@ -47,26 +46,27 @@ add-result c = search needs
 returns : tie.Need-returns
 returns c =
     let s = c .before .before .before .args .s .now in
-    let n = c .before .before .before .args .n in
+    let k = c .before .before .before .args .k in
+    let j = k % 8 * 2 + k / 8 in
     let x = c .before .word-at .result in
     let y = c .word-at2 .result in
     let h : x < 2 ^ 32 = omega arith in
-    let next : masksAt + 4 * n + 4 ≡ masksAt + 4 * (n + 1) = omega arith in
-    joins (goodMask s) n (n + 1) (n + 1 + 1) (n + 2) (gapDown x) (gapDown y) _ (omega arith) (omega arith) (omega arith) (bare-pair x y h)
-    (alone (goodMask s) n (gapDown x) (ap gapDown (c .before .word-at .ensures)))
-    (alone (goodMask s) (n + 1) (gapDown y) (ap gapDown (c .word-at2 .ensures ∙ ap (wordAt s) next)))
+    let first : masksAt + 8 * j ≡ masksAt + 4 * (2 * j) = omega arith in
+    let second : masksAt + 8 * j + 4 ≡ masksAt + 4 * (2 * j + 1) = omega arith in
+    bare-pair x y h
+    ∙ ap₂ (λ (a b : ℕ). gapDown a && gapDown b) (c .before .word-at .ensures ∙ ap (wordAt s) first) (c .word-at2 .ensures ∙ ap (wordAt s) second)
 
-pub mask-two-spec : {M : Type 1} → statement M
-mask-two-spec =
+pub pair-spec : {M : Type 1} → statement M
+pair-spec =
     tie.close
     (tie.spec
-    mul-word-at
-    add-word-at
+    mul-at
+    add-at
+    mul-at-2
+    add-at-2
     word-at-requires
     cast-result
-    mul-word-at-2
-    add-word-at-2
-    add-word-at-3
+    add-word-at
     word-at-requires-2
     cast-result-2
     mul-result

@@ -1,31 +1,30 @@
 use Prim.Native.Nat.{_+_}
 use native.Mathlib.Omega.{arith}
-use Rattle.good.specs.Good.{goodMask}
-use Rattle.good.specs.Gathered.{bare}
-use Rattle.good.proofs.Stretches.{joins}
+use Rattle.good.specs.Gathered.{bare, goodPair}
+use Rattle.good.proofs.Stretches.{alone, joins}
 use Rattle.good.proofs.Masks.{bare-or}
 use borrow.Author.Needs.{needs}
-use Rattle.good.proofs.mask_four.Statement.{statement}
-use Rattle.good.proofs.mask_four.Tie as tie
+use Rattle.good.proofs.two_pairs.Statement.{statement}
+use Rattle.good.proofs.two_pairs.Tie as tie
 
-mask-two-requires : tie.Need-mask-two-requires
-mask-two-requires c κs = search needs
+pair-requires : tie.Need-pair-requires
+pair-requires c κs = search needs
 
-add-mask-two : tie.Need-add-mask-two
-add-mask-two c = search needs
+add-pair : tie.Need-add-pair
+add-pair c = search needs
 
-mask-two-requires-2 : tie.Need-mask-two-requires-2
-mask-two-requires-2 c κs = search needs
+pair-requires-2 : tie.Need-pair-requires-2
+pair-requires-2 c κs = search needs
 
 returns : tie.Need-returns
 returns c =
-    let p = goodMask (c .before .before .before .args .s .now) in
-    let n = c .before .before .before .args .n in
-    let x = c .before .mask-two .result in
-    let y = c .mask-two2 .result in
-    joins p n (n + 2) (n + 2 + 2) (n + 4) (bare x) (bare y) _ (omega arith) (omega arith) (omega arith) (bare-or x y)
-    (c .before .mask-two .ensures)
-    (c .mask-two2 .ensures)
+    let p = goodPair (c .before .before .before .args .s .now) in
+    let k = c .before .before .before .args .k in
+    let x = c .before .pair .result in
+    let y = c .pair2 .result in
+    joins p k (k + 1) (k + 1 + 1) (k + 2) (bare x) (bare y) _ (omega arith) (omega arith) (omega arith) (bare-or x y)
+    (alone p k (bare x) (c .before .pair .ensures))
+    (alone p (k + 1) (bare y) (c .pair2 .ensures))
 
-pub mask-four-spec : {M : Type 1} → statement M
-mask-four-spec = tie.close (tie.spec mask-two-requires add-mask-two mask-two-requires-2 returns)
+pub two-pairs-spec : {M : Type 1} → statement M
+two-pairs-spec = tie.close (tie.spec pair-requires add-pair pair-requires-2 returns)
