@@ -26,10 +26,15 @@ static inline struct event plain_event(int operation, int target, int word, uint
     return e;
 }
 
-/* The register is named by its word in the image, as MC. */
+/* The register is named by its word in the image, as MC or MASK(3). */
+static inline int register_number(int word)
+{
+    return word < MASKS ? word - MC : word - MASKS + FROSTSORREL_MASK_0;
+}
+
 static inline struct event write_register(int word, uint32_t value)
 {
-    return plain_event(FROSTSORREL_WRITE_REGISTER, word - MC, 0, value);
+    return plain_event(FROSTSORREL_WRITE_REGISTER, register_number(word), 0, value);
 }
 
 static inline struct event write_mailbox(int n, int k, uint32_t value)

@@ -1,7 +1,7 @@
 /*
  * Document 01, and of document 02 the comparison of two images, the outcome for a missing acknowledgement,
- * DLC 9 to 15 and the explainer, in plain C. "D12" and the like are entries of docs/DECISIONS.md. Traces in
- * parts have a file of their own, so that the code of a step stays where it is.
+ * DLC 9 to 15, the explainer and the eCAN, in plain C. "D12" and the like are entries of docs/DECISIONS.md.
+ * Traces in parts have a file of their own, so that the code of a step stays where it is.
  */
 #include "reference.h"
 
@@ -13,21 +13,26 @@
 #error "words are taken from the image as they stand: this wants a little-endian machine"
 #endif
 
-/* ---- the image: words counted from its first byte, the register words behind 32 mailboxes of 4 */
+/*
+ * ---- the image: words counted from its first byte; behind 32 mailboxes of 4 the register words, then what
+ * the eCAN has of its own, then the profile
+ */
 
-#define IMAGE_BYTES 640
+#define IMAGE_BYTES 776
 #define REGISTER_BYTES 512 /* where the register words begin */
 
 enum {
     MC = 128, MD, TRS, TRR, TA, AA, RMP, RML, LAM, GAM, RFP, CDR, MBTIF, MBRIF, MBIM, GIF, GIM,
-    BCR1, BCR2, TSC, TEC, REC, MODE, WAITING, SLOT, RECOVERY, OPTIONS, TSO, SPARE
+    BCR1, BCR2, TSC, TEC, REC, MODE, WAITING, SLOT, RECOVERY, OPTIONS, TSO, SPARE,
+    MASKS = 160, PROTECTION = 192, PROFILE
 };
+enum { CAN_B, ECAN };
 enum { NORMAL, CONFIGURATION, SLEEP, SUSPEND, NO_MODE };
-enum { EMPTY = 31, BUS_OFF = 256, NO_MAILBOX = 32 };
+enum { EMPTY = 32, BUS_OFF = 256, NO_MAILBOX = 32 };
 
 /* Word 0 of a mailbox; a frame's value has IDE and the identifier in the same places. */
 #define IDE 0x80000000u
-#define MASKED 0x40000000u /* GAME, or LAME in mailbox 31 */
+#define MASKED 0x40000000u /* GAME, or LAME in mailbox 31; in an eCAN AME */
 #define RFH 0x20000000u
 #define IDENTIFIER 0x1FFFFFFFu
 #define BASE 0x1FFC0000u /* the 11 bits of a standard identifier */
@@ -37,6 +42,7 @@ enum { EMPTY = 31, BUS_OFF = 256, NO_MAILBOX = 32 };
 #define RTR 0x10u
 #define CONTROL_SPARE 0xFFE0u
 
+#define MASK_SPARE 0x60000000u /* in LAM, GAM and the masks of an eCAN */
 #define MAILBOX_31 0x80000000u
 
 enum { MTOS = 1, WUBA = 2 };
@@ -91,10 +97,15 @@ static inline uint64_t found(uint32_t mailbox, uint32_t count)
 
 /* ---- the state, as several rules ask for it */
 
-/* The bit of the mailbox in the slot; 31 there means nobody (D4), and has no bit. */
+static inline bool ecan(const uint8_t *image)
+{
+    return get(image, PROFILE) == ECAN;
+}
+
+/* The bit of the mailbox in the slot; 32 there means nobody, and has no bit. */
 static inline uint32_t slot_bit(const uint8_t *image)
 {
-    return 1u << (get(image, SLOT) & 31) & ~MAILBOX_31;
+    return (uint32_t)(UINT64_C(1) << (get(image, SLOT) & 63));
 }
 
 static inline bool slot_filled(const uint8_t *image)
@@ -150,18 +161,35 @@ static bool good_mailboxes(const uint8_t *image)
     return ((standard & LOW) | stray_control(control)) == 0;
 }
 
-/* Bits that no good image has, whatever the other words say. */
-static inline uint32_t stray_bits(const uint8_t *image)
+/* Four masks between two branches, two of them as one number: the compiler makes no vectors of that. */
+static bool good_masks(const uint8_t *image)
+{
+    const uint64_t spare = (uint64_t)MASK_SPARE << 32 | MASK_SPARE;
+
+    for (const uint8_t *at = image + 4 * MASKS; at < image + 4 * PROTECTION; at += 16)
+        if ((get_double(at) | get_double(at + 8)) & spare)
+            return false;
+    return true;
+}
+
+/* Bit 31 of what has none in a CAN-B, where mailbox 31 only receives. */
+static inline uint32_t stray_31(const uint8_t *image)
 {
     uint32_t never_31 = get(image, TRS) | get(image, TRR) | get(image, TA) | get(image, AA) |
                         get(image, CDR) | get(image, MBTIF) | ~get(image, MD);
 
-    return (never_31 & MAILBOX_31) | ((get(image, LAM) | get(image, GAM)) & (MASKED | RFH)) |
+    return get(image, PROFILE) == CAN_B ? never_31 & MAILBOX_31 : 0;
+}
+
+/* Bits that no good image has, whatever the other words say. */
+static inline uint32_t stray_bits(const uint8_t *image)
+{
+    return ((get(image, LAM) | get(image, GAM)) & MASK_SPARE) |
            ((get(image, GIF) | get(image, GIM) | get(image, REC)) & ~0xFFu) |
            ((get(image, BCR1) | get(image, BCR2)) & ~0x3FFu) | (get(image, TSC) & ~0xFFFFu) |
-           ((get(image, MODE) | get(image, OPTIONS)) & ~3u) | (get(image, SLOT) & ~31u) |
-           (get(image, RECOVERY) & ~127u) | (get(image, TSO) & ~1u) | get(image, SPARE) |
-           get(image, SPARE + 1) | get(image, SPARE + 2) | get(image, SPARE + 3);
+           ((get(image, MODE) | get(image, OPTIONS)) & ~3u) | (get(image, RECOVERY) & ~127u) |
+           ((get(image, TSO) | get(image, PROFILE)) & ~1u) | get(image, SPARE) | get(image, SPARE + 1) |
+           get(image, SPARE + 2) | get(image, SPARE + 3);
 }
 
 /* Bits that stand where another word does not let them. */
@@ -173,22 +201,22 @@ static inline uint32_t misplaced_bits(const uint8_t *image)
            ((get(image, RML) | get(image, RFP)) & ~get(image, RMP)) | (slot & ~(trs & get(image, MC)));
 }
 
-/* The clauses about mode, slot and counters. */
+/* The clauses about mode, slot and counters. That slot 31 has its TRS bit, misplaced_bits has asked. */
 static inline bool good_state(const uint8_t *image)
 {
     uint32_t mode = get(image, MODE), tec = get(image, TEC), waiting = get(image, WAITING);
     uint32_t quiet = tec | get(image, REC) | get(image, TRS) | get(image, TRR);
     bool filled = slot_filled(image), off = tec == BUS_OFF;
 
-    return (tec <= BUS_OFF) & !(filled & off) & ((mode == NORMAL) | !(filled | off)) &
+    return (get(image, SLOT) <= EMPTY) & (tec <= BUS_OFF) & !(filled & off) & ((mode == NORMAL) | !(filled | off)) &
            ((get(image, RECOVERY) == 0) | off) & (waiting - 1 < NO_MODE) &
            ((waiting == NO_MODE) | filled | off) & ((mode != SLEEP) | (quiet == 0));
 }
 
 static bool good(const uint8_t *image, size_t image_len)
 {
-    return image_len == IMAGE_BYTES && (stray_bits(image) | misplaced_bits(image)) == 0 &&
-           good_state(image) && good_mailboxes(image);
+    return image_len == IMAGE_BYTES && (stray_bits(image) | stray_31(image) | misplaced_bits(image)) == 0 &&
+           good_state(image) && good_mailboxes(image) && good_masks(image);
 }
 
 /* ---- the event: 8 bytes of operation, target, word, 0 and value, taken as one number; 8 of data */
@@ -305,12 +333,17 @@ static uint64_t request_mode(uint8_t *image, struct event e)
 
 /* ---- writing */
 
-/* Bits that a register may not be written with; RML and RFP cannot be written at all. */
+/* Bits that a register of a CAN-B may not be written with; RML and RFP cannot be written at all. */
 static const uint32_t forbidden[20] = {
-    [LAM - MC] = MASKED | RFH, [GAM - MC] = MASKED | RFH, [CDR - MC] = MAILBOX_31,
-    [GIF - MC] = ~0xFFu,       [GIM - MC] = ~0xFFu,       [BCR1 - MC] = ~0x3FFu,
-    [BCR2 - MC] = ~0x3FFu,     [TSC - MC] = ~0u,
+    [LAM - MC] = MASK_SPARE, [GAM - MC] = MASK_SPARE, [CDR - MC] = MAILBOX_31, [GIF - MC] = ~0xFFu,
+    [GIM - MC] = ~0xFFu,     [BCR1 - MC] = ~0x3FFu,   [BCR2 - MC] = ~0x3FFu,   [TSC - MC] = ~0u,
 };
+
+/* The same of either controller: an eCAN has bit 31 in CDR. */
+static inline uint32_t forbidden_bits(const uint8_t *image, unsigned r)
+{
+    return r == CDR && ecan(image) ? 0 : forbidden[r - MC];
+}
 
 /* TRR: a request in the slot is marked, any other ends at once. */
 static void cancel(uint8_t *image, uint32_t bits)
@@ -333,9 +366,10 @@ static uint64_t write_mc(uint8_t *image, uint32_t v)
     return ACCEPTED;
 }
 
+/* Mailbox 31 of a CAN-B always receives. */
 static uint64_t write_md(uint8_t *image, uint32_t v)
 {
-    uint32_t next = v | MAILBOX_31, changed = next ^ get(image, MD);
+    uint32_t next = ecan(image) ? v : v | MAILBOX_31, changed = next ^ get(image, MD);
 
     if (changed & get(image, TRS))
         return refused(BUSY);
@@ -353,16 +387,50 @@ static uint64_t write_timing(uint8_t *image, unsigned bcr, uint32_t v)
     return ACCEPTED;
 }
 
+/* LAM and GAM, which an eCAN keeps as they are. */
+static uint64_t write_shared_mask(uint8_t *image, unsigned r, uint32_t v)
+{
+    if (ecan(image))
+        return refused(LOCKED);
+    set(image, r, v);
+    return ACCEPTED;
+}
+
+/* Registers 64 to 95 are the masks, 96 is the protection: words of the image, but 32 further up. */
+enum { FIRST_MASK = 64, PROTECTION_REGISTER = 96, FURTHER_UP = 32 };
+
+static inline bool is_of_ecan(uint32_t number)
+{
+    return number - FIRST_MASK <= PROTECTION_REGISTER - FIRST_MASK;
+}
+
+/* What only an eCAN has; no mode and no enabled mailbox locks it. */
+static uint64_t write_own(uint8_t *image, struct event e)
+{
+    uint32_t v = value(e);
+
+    if (asleep(image))
+        return refused(ASLEEP);
+    if (dirty(e, WORD) || (target(e) != PROTECTION_REGISTER && v & MASK_SPARE))
+        return refused(NOT_ALLOWED);
+    if (!ecan(image))
+        return refused(LOCKED);
+    set(image, MC + target(e) - FURTHER_UP, v);
+    return ACCEPTED;
+}
+
 static uint64_t write_register(uint8_t *image, struct event e)
 {
     unsigned r = MC + target(e);
     uint32_t v = value(e);
 
+    if (is_of_ecan(target(e)))
+        return write_own(image, e);
     if (r > TSC || r == RML || r == RFP)
         return refused(UNKNOWN);
     if (asleep(image))
         return refused(ASLEEP);
-    if (dirty(e, WORD) || (v & forbidden[r - MC]))
+    if (dirty(e, WORD) || (v & forbidden_bits(image, r)))
         return refused(NOT_ALLOWED);
     switch (r) {
     case MC:
@@ -371,6 +439,8 @@ static uint64_t write_register(uint8_t *image, struct event e)
         return write_md(image, v);
     case BCR1: case BCR2:
         return write_timing(image, r, v);
+    case LAM: case GAM:
+        return write_shared_mask(image, r, v);
     case TRS:
         set_bits(image, TRS, v & ~get(image, MD));
         break;
@@ -390,7 +460,7 @@ static uint64_t write_register(uint8_t *image, struct event e)
     case TA: case AA: case MBTIF: case MBRIF:
         clear_bits(image, r, v);
         break;
-    default: /* LAM, GAM, CDR, MBIM, GIM, TSC */
+    default: /* CDR, MBIM, GIM, TSC */
         set(image, r, v);
     }
     return ACCEPTED;
@@ -464,10 +534,16 @@ struct match {
     uint32_t mailbox, count;
 };
 
-static struct match search(const uint8_t *image, uint32_t frame)
+/* The mailboxes that a frame is compared with. */
+static inline uint32_t candidates_of(const uint8_t *image, uint32_t frame)
 {
-    uint32_t candidates = get(image, MC) & (frame & FRAME_RTR ? ~0u : get(image, MD));
-    uint32_t compared = compared_bits(frame);
+    return get(image, MC) & (frame & FRAME_RTR ? ~0u : get(image, MD));
+}
+
+/* In a CAN-B: upwards, under GAM, and mailbox 31 last, under LAM. */
+static struct match search_up(const uint8_t *image, uint32_t frame)
+{
+    uint32_t candidates = candidates_of(image, frame), compared = compared_bits(frame);
     uint32_t under_gam = compared & ~get(image, GAM), under_lam = compared & ~get(image, LAM);
     struct match m = {NO_MAILBOX, 0};
 
@@ -482,6 +558,41 @@ static struct match search(const uint8_t *image, uint32_t frame)
         }
     }
     return m;
+}
+
+static inline uint32_t highest_bit(uint32_t bits)
+{
+    return 31 - (uint32_t)__builtin_clz(bits);
+}
+
+/* Receive mailboxes of an eCAN that keep the message they hold: a frame that matches goes past them. */
+static inline uint32_t guarded_mailboxes(const uint8_t *image)
+{
+    return get(image, PROTECTION) & get(image, RMP) & get(image, MD);
+}
+
+/* In an eCAN: downwards, each under its own mask. Who is passed over was compared all the same. */
+static struct match search_down(const uint8_t *image, uint32_t frame)
+{
+    uint32_t candidates = candidates_of(image, frame), compared = compared_bits(frame);
+    uint32_t guarded = guarded_mailboxes(image), n, own;
+    struct match m = {NO_MAILBOX, 0};
+
+    for (; candidates; candidates ^= 1u << n) {
+        n = highest_bit(candidates);
+        own = get(image, 4 * n);
+        m.count++;
+        if (((own ^ frame) & compared & ~(own & MASKED ? get(image, MASKS + n) : 0)) == 0 && !(guarded >> n & 1)) {
+            m.mailbox = n;
+            break;
+        }
+    }
+    return m;
+}
+
+static inline struct match search(const uint8_t *image, uint32_t frame)
+{
+    return ecan(image) ? search_down(image, frame) : search_up(image, frame);
 }
 
 static void store(uint8_t *image, uint32_t n, struct event e)
@@ -724,10 +835,12 @@ static uint64_t set_options(uint8_t *image, struct event e)
     return ACCEPTED;
 }
 
-static void fresh_registers(uint8_t *image)
+/* All words behind the mailboxes. */
+static void fresh_words(uint8_t *image, uint32_t profile)
 {
     memset(image + REGISTER_BYTES, 0, IMAGE_BYTES - REGISTER_BYTES);
-    set(image, MD, MAILBOX_31);
+    set(image, PROFILE, profile);
+    set(image, MD, profile == ECAN ? 0 : MAILBOX_31);
     set(image, MODE, CONFIGURATION);
     set(image, WAITING, NO_MODE);
     set(image, SLOT, EMPTY);
@@ -737,18 +850,20 @@ static uint64_t reset(uint8_t *image, struct event e)
 {
     if (dirty(e, TARGET | WORD | VALUE))
         return refused(NOT_ALLOWED);
-    fresh_registers(image);
+    fresh_words(image, get(image, PROFILE));
     return ACCEPTED;
 }
 
 /* ---- fresh, step and read */
 
-uint64_t reference_fresh(uint8_t *image, size_t image_len)
+uint64_t reference_fresh(uint8_t *image, size_t image_len, uint32_t profile)
 {
     if (image_len != IMAGE_BYTES)
         return refused(BAD_IMAGE);
+    if (profile > ECAN)
+        return refused(NOT_ALLOWED);
     memset(image, 0, REGISTER_BYTES);
-    fresh_registers(image);
+    fresh_words(image, profile);
     return ACCEPTED;
 }
 
@@ -777,25 +892,46 @@ uint64_t reference_step(uint8_t *image, size_t image_len, const uint8_t *event, 
     }
 }
 
-/* Of a model that is awake. */
+/* The slot as GSR has it, in five bits: 31 is nobody's there, as mailbox 31 of a CAN-B does not send. */
+static inline uint32_t shown_slot(const uint8_t *image)
+{
+    return slot_filled(image) ? get(image, SLOT) : 31;
+}
+
+/* Of a CAN-B that is awake. */
 static uint32_t gsr(const uint8_t *image)
 {
     uint32_t mode = get(image, MODE);
 
-    return get(image, SLOT) << 12 | (uint32_t)slot_filled(image) << 10 |
+    return shown_slot(image) << 12 | (uint32_t)slot_filled(image) << 10 |
            (uint32_t)(mode == SUSPEND) << 8 | (uint32_t)(mode == CONFIGURATION) << 7 |
            get(image, TSO) << 3 | conditions(image);
 }
 
+enum { GSR = 32 };
+
+static uint32_t read_gsr(const uint8_t *image)
+{
+    return asleep(image) ? 0x0001F040 : gsr(image);
+}
+
+static uint32_t read_word(const uint8_t *image, unsigned at)
+{
+    return asleep(image) ? 0 : get(image, at);
+}
+
+/* An eCAN has no GSR. What only it has can be read of a CAN-B too. */
 uint64_t reference_read(const uint8_t *image, size_t image_len, uint32_t number)
 {
     if (!good(image, image_len))
         return (uint64_t)BAD_IMAGE << 32;
-    if (number > 21 && number != 32)
-        return (uint64_t)UNKNOWN << 32;
-    if (asleep(image))
-        return number == 32 ? 0x0001F040 : 0;
-    return number == 32 ? gsr(image) : get(image, MC + number);
+    if (number == GSR && !ecan(image))
+        return read_gsr(image);
+    if (number <= REC - MC)
+        return read_word(image, MC + number);
+    if (is_of_ecan(number))
+        return read_word(image, MC + number - FURTHER_UP);
+    return (uint64_t)UNKNOWN << 32;
 }
 
 /* ---- comparing: an entry is three words, the number of a word and what the two images have there */
@@ -819,12 +955,15 @@ static inline uint32_t *list_two(uint32_t *at, uint32_t number, uint64_t first, 
     return list_word(at, number + 1, (uint32_t)(first >> 32), (uint32_t)(second >> 32));
 }
 
-/* Four words at once are looked at: of two images of one run most are equal. Answers how many entries. */
+/*
+ * Four words at once are looked at: of two images of one run most are equal. Protection and profile are left, and
+ * listed as they stand. Answers how many entries.
+ */
 static size_t list_differences(uint32_t *entries, const uint8_t *first, const uint8_t *second)
 {
     uint32_t *at = entries;
 
-    for (unsigned n = 0; n < IMAGE_WORDS; n += 4) {
+    for (unsigned n = 0; n < PROTECTION; n += 4) {
         uint64_t first_low = get_double(first + 4 * n), first_high = get_double(first + 4 * n + 8);
         uint64_t second_low = get_double(second + 4 * n), second_high = get_double(second + 4 * n + 8);
 
@@ -833,6 +972,7 @@ static size_t list_differences(uint32_t *entries, const uint8_t *first, const ui
         at = list_two(at, n, first_low, second_low);
         at = list_two(at, n + 2, first_high, second_high);
     }
+    at = list_two(at, PROTECTION, get_double(first + 4 * PROTECTION), get_double(second + 4 * PROTECTION));
     return (size_t)(at - entries) / ENTRY_WORDS;
 }
 
@@ -854,7 +994,7 @@ uint64_t reference_compare(const uint8_t *first, size_t first_len, const uint8_t
 
 /* ---- explaining: a line is mailbox, reason, bit number and five zeros, here as one number */
 
-enum { DISABLED = 1, TRANSMITS, IDE_DIFFERS, BIT_DIFFERS, MATCHED, NOT_HEARD };
+enum { DISABLED = 1, TRANSMITS, IDE_DIFFERS, BIT_DIFFERS, MATCHED, NOT_HEARD, PROTECTED };
 enum { FRAME = 2, IN_BUS_OFF = 4 };
 
 #define LINE_BYTES 8
@@ -869,23 +1009,23 @@ static inline uint32_t reason_of(uint64_t one)
     return one >> 8 & 0xFF;
 }
 
-/* What the mailbox's mask frees; without GAME or LAME, nothing. */
+static inline unsigned mask_of(const uint8_t *image, uint32_t n)
+{
+    if (ecan(image))
+        return MASKS + n;
+    return n == 31 ? LAM : GAM;
+}
+
+/* What the mailbox's mask frees; without GAME, LAME or AME, nothing. */
 static inline uint32_t freed_bits(const uint8_t *image, uint32_t n)
 {
-    if (!(get(image, 4 * n) & MASKED))
-        return 0;
-    return get(image, n == 31 ? LAM : GAM);
+    return get(image, 4 * n) & MASKED ? get(image, mask_of(image, n)) : 0;
 }
 
 /* IDE, and the bits of the identifier, that are compared, not freed, and differ. */
 static inline uint32_t differing_bits(const uint8_t *image, uint32_t n, uint32_t frame)
 {
     return (get(image, 4 * n) ^ frame) & compared_bits(frame) & ~freed_bits(image, n);
-}
-
-static inline uint32_t highest_bit(uint32_t bits)
-{
-    return 31 - (uint32_t)__builtin_clz(bits);
 }
 
 /* The first reason that holds. */
@@ -902,16 +1042,20 @@ static uint64_t explain_mailbox(const uint8_t *image, uint32_t n, uint32_t frame
         return line(n, IDE_DIFFERS, 0);
     if (differing)
         return line(n, BIT_DIFFERS, highest_bit(differing));
+    if (ecan(image) && guarded_mailboxes(image) >> n & 1)
+        return line(n, PROTECTED, 0);
     return line(n, MATCHED, 0);
 }
 
 /* Of a frame that is heard: up to the mailbox that matches, or all. Answers how many lines. */
 static size_t explain_search(uint64_t *lines, const uint8_t *image, uint32_t frame)
 {
-    for (uint32_t n = 0; n < 32; n++) {
-        lines[n] = explain_mailbox(image, n, frame);
-        if (reason_of(lines[n]) == MATCHED)
-            return n + 1;
+    uint32_t turned = ecan(image) ? 31 : 0; /* the k-th mailbox of the search is k, or 31 - k */
+
+    for (uint32_t k = 0; k < 32; k++) {
+        lines[k] = explain_mailbox(image, k ^ turned, frame);
+        if (reason_of(lines[k]) == MATCHED)
+            return k + 1;
     }
     return 32;
 }
@@ -1015,7 +1159,7 @@ size_t reference_list(char *listing, const uint8_t *file, size_t file_len)
     if (!well_formed(file, file_len))
         return (size_t)sprintf(listing, "trace refused 8\n");
     at += sprintf(at, "step code mailbox count\n");
-    reference_fresh(image, IMAGE_BYTES);
+    reference_fresh(image, IMAGE_BYTES, CAN_B);
     for (int section = 0; section < 3; section++) {
         size_t count = count_at(file);
 

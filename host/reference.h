@@ -1,6 +1,6 @@
 /*
- * A second implementation of document 01 and of requests a) to e) of document 02, in plain C, apart from the
- * proved one: it was written from these, frostsorrel.h and docs/DECISIONS.md alone. The tests hold the two
+ * A second implementation of document 01 and of requests a) to e) and g) of document 02, in plain C, apart from
+ * the proved one: it was written from these, frostsorrel.h and docs/DECISIONS.md alone. The tests hold the two
  * against each other.
  *
  * The first eight functions have the signatures and the answers of those in frostsorrel.h.
@@ -11,7 +11,7 @@
 #include <stddef.h>
 #include <stdint.h>
 
-uint64_t reference_fresh(uint8_t *image, size_t image_len);
+uint64_t reference_fresh(uint8_t *image, size_t image_len, uint32_t profile);
 uint64_t reference_step(uint8_t *image, size_t image_len, const uint8_t *event, size_t event_len);
 uint64_t reference_read(const uint8_t *image, size_t image_len, uint32_t number);
 uint64_t reference_compare(const uint8_t *first, size_t first_len, const uint8_t *second,

@@ -11,7 +11,8 @@
 #error "words are taken from the state as they stand: this wants a little-endian machine"
 #endif
 
-#define IMAGE_BYTES 640
+#define IMAGE_BYTES 776
+#define CAN_B 0 /* the profile that every trace starts in */
 #define COUNT_BYTES 2
 #define EVENT_BYTES 16
 #define MOST_EVENTS 1000 /* of a section */
@@ -229,7 +230,7 @@ uint64_t reference_stream_open(uint8_t *image, size_t image_len, uint8_t *state,
         return refused(BAD_IMAGE);
     if (text_len < strlen(HEADER))
         return refused(NO_ROOM);
-    reference_fresh(image, image_len);
+    reference_fresh(image, image_len, CAN_B);
     memcpy(state, &first, sizeof first);
     put_words(text, HEADER);
     return wrote(ACCEPTED, strlen(HEADER));

@@ -16,15 +16,25 @@ static void compare_images(void)
     memcpy(image, expected, BYTES);
 }
 
-void begin(const char *name, enum state state)
+static void begin_of(const char *name, uint32_t profile, enum state state)
 {
     static const struct edit nothing[EDITS];
 
     if (scenario)
         end();
     scenario = name;
-    make(expected, state, nothing);
+    make_of(expected, profile, state, nothing);
     memcpy(image, expected, BYTES);
+}
+
+void begin(const char *name, enum state state)
+{
+    begin_of(name, CAN_B, state);
+}
+
+void begin_ecan(const char *name, enum state state)
+{
+    begin_of(name, ECAN, state);
 }
 
 void end(void)

@@ -1,9 +1,10 @@
 /*
  * Scenarios: events are fed to a model, and beside it the test keeps, by hand, what its image should
- * be. After every event all 640 bytes are compared, so each event shows what it changes and that it
+ * be. After every event all 776 bytes are compared, so each event shows what it changes and that it
  * changes nothing else.
  *
- *     begin("name", NORMAL)             a scenario, from one of the states of states.h
+ *     begin("name", NORMAL)             a scenario, from one of the states of states.h, of a CAN-B
+ *     begin_ecan("name", NORMAL)        the same of an eCAN
  *     given({word, value}, ..)          the image it goes on from has these words
  *     accept(event)                     accepted, mailbox 32, count 0
  *     answers(event, mailbox, count)    accepted
@@ -33,6 +34,7 @@ struct content {
 };
 
 void begin(const char *name, enum state state);
+void begin_ecan(const char *name, enum state state);
 void end(void);
 
 #define CONTENTS(...) (const struct content[]){__VA_ARGS__}, \

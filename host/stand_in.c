@@ -9,9 +9,9 @@
 
 list_function *explained_by = reference_explain;
 
-uint64_t frostsorrel_fresh(uint8_t *image, size_t image_len)
+uint64_t frostsorrel_fresh(uint8_t *image, size_t image_len, uint32_t profile)
 {
-    return reference_fresh(image, image_len);
+    return reference_fresh(image, image_len, profile);
 }
 
 uint64_t frostsorrel_step(uint8_t *image, size_t image_len, const uint8_t *event, size_t event_len)

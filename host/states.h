@@ -1,4 +1,4 @@
-/* Images made by hand: one of five states, then some words changed. */
+/* Images made by hand: one of five states of either profile, then some words changed. */
 #ifndef STATES_H
 #define STATES_H
 
@@ -28,19 +28,29 @@ static inline void change(uint8_t *image, const struct edit *edits)
         put(image, edits[i].word, edits[i].value);
 }
 
-static inline void make(uint8_t *image, enum state state, const struct edit *edits)
+static inline void make_of(uint8_t *image, uint32_t profile, enum state state, const struct edit *edits)
 {
-    put_fresh(image);
+    put_fresh_of(image, profile);
     change(image, states[state]);
     change(image, edits);
 }
 
+static inline void make(uint8_t *image, enum state state, const struct edit *edits)
+{
+    make_of(image, CAN_B, state, edits);
+}
+
 /* A state with one word changed. */
-static inline void make_with(uint8_t *image, enum state state, int word, uint32_t value)
+static inline void make_with_of(uint8_t *image, uint32_t profile, enum state state, int word, uint32_t value)
 {
     const struct edit one[EDITS] = {SET(word, value)};
 
-    make(image, state, one);
+    make_of(image, profile, state, one);
+}
+
+static inline void make_with(uint8_t *image, enum state state, int word, uint32_t value)
+{
+    make_with_of(image, CAN_B, state, word, value);
 }
 
 #endif

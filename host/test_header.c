@@ -58,8 +58,9 @@ static void sizes(void)
     const char header[] = "step code mailbox count\n", refusal[] = "trace refused 8\n", end[] = "end 3000\n";
     const char longest_listing[] = "step code mailbox count\n" "end 3000\n";
 
-    same_number("the image", FROSTSORREL_IMAGE_BYTES, 16 * FROSTSORREL_MAILBOXES + 4 * 32);
-    same_number("its words", FROSTSORREL_IMAGE_WORDS, 4 * FROSTSORREL_MAILBOXES + 32);
+    same_number("the image", FROSTSORREL_IMAGE_BYTES, 4 * FROSTSORREL_IMAGE_WORDS);
+    same_number("its words", FROSTSORREL_IMAGE_WORDS,
+                4 * FROSTSORREL_MAILBOXES + 32 + FROSTSORREL_MAILBOXES + 1 + 1);
     same_number("the longest trace", FROSTSORREL_TRACE_BYTES,
                 3 * (2 + FROSTSORREL_EVENT_BYTES * FROSTSORREL_SECTION_EVENTS));
     same_number("room for any listing", FROSTSORREL_LISTING_BYTES, strlen(longest_listing) + 3000 * 13);
@@ -195,6 +196,10 @@ static void words(void)
     same_number("data byte 7 of mailbox 31", frostsorrel_mailbox_data(image, 31, 7), 0x09);
     same_number("MC", frostsorrel_register_word(image, FROSTSORREL_MC), 0x0D0C0B0A);
     same_number("TSO", frostsorrel_register_word(image, FROSTSORREL_WORD_TSO), 0x79787776);
+    same_number("mask 0", frostsorrel_mask_word(image, 0), 0x8D8C8B8A);
+    same_number("mask 31", frostsorrel_mask_word(image, 31), 0x0E0D0C0B);
+    same_number("protection", frostsorrel_protection_word(image), 0x1211100F);
+    same_number("profile", frostsorrel_profile_word(image), 0x16151413);
     image[3] = 0xFF;
     same_number("a word's top bit", frostsorrel_mailbox_word(image, 0, 0), 0xFF020100);
 }
@@ -230,7 +235,7 @@ static void entries(void)
     same_number("its second content", frostsorrel_entry_second(list, 1), 1);
 }
 
-/* ---- three lines of explanations, by hand: a bit of mailbox 3, mailbox 31 matched, not heard in bus off */
+/* ---- lines of explanations, by hand: a bit of mailbox 3, mailbox 31 matched, not heard in bus off, 4 protected */
 
 static void lines(void)
 {
@@ -238,6 +243,7 @@ static void lines(void)
         3,  4, 28, 0, 0, 0, 0, 0,
         31, 5, 0,  0, 0, 0, 0, 0,
         32, 6, 4,  0, 0, 0, 0, 0,
+        4,  7, 0,  0, 0, 0, 0, 0,
     };
 
     same_number("the mailbox of line 0", frostsorrel_line_mailbox(list, 0), 3);
@@ -249,6 +255,9 @@ static void lines(void)
     same_number("the mailbox of line 2", frostsorrel_line_mailbox(list, 2), FROSTSORREL_NO_MAILBOX);
     same_number("its reason", frostsorrel_line_reason(list, 2), FROSTSORREL_NOT_HEARD);
     same_number("its mode", frostsorrel_line_bit(list, 2), FROSTSORREL_IN_BUS_OFF);
+    same_number("the mailbox of line 3", frostsorrel_line_mailbox(list, 3), 4);
+    same_number("its reason", frostsorrel_line_reason(list, 3), FROSTSORREL_PROTECTED);
+    same_number("its bit", frostsorrel_line_bit(list, 3), 0);
 }
 
 /* ---- the state of a stream, by hand: 4 of section 2 left, 1,500 complete, 3 bytes of the next, options */
@@ -283,6 +292,7 @@ static void reasons(void)
     same_number("bit differs", FROSTSORREL_BIT_DIFFERS, 4);
     same_number("matched", FROSTSORREL_MATCHED, 5);
     same_number("not heard", FROSTSORREL_NOT_HEARD, 6);
+    same_number("protected", FROSTSORREL_PROTECTED, 7);
     same_number("in bus off", FROSTSORREL_IN_BUS_OFF, 4);
     same_number("the last mode", FROSTSORREL_SUSPEND, 3);
 }
@@ -293,7 +303,7 @@ static void answers(void)
     same_number("the mailbox", frostsorrel_answer_mailbox(0x200507), 5);
     same_number("the count", frostsorrel_answer_count(0x200507), 0x20);
     same_number("no room", frostsorrel_answer_refusal(0x2009), FROSTSORREL_NO_ROOM);
-    same_number("a list of 155 entries", frostsorrel_answer_count(0x9B2000), 155);
+    same_number("a list of 189 entries", frostsorrel_answer_count(0xBD2000), 189);
     same_number("an explanation of 32 lines", frostsorrel_answer_count(0x202000), 32);
     same_number("a stream over, with 29 bytes", frostsorrel_answer_refusal(0x1D2008), FROSTSORREL_BAD_TRACE);
     same_number("those bytes", frostsorrel_answer_count(0x1D2008), 29);
@@ -320,7 +330,8 @@ static void bits(void)
     same_number("GSR while mailbox 2 sends", 2u << FROSTSORREL_GSR_MIS_SHIFT | FROSTSORREL_GSR_TM, 0x2400);
     same_number("GSR in bus off", FROSTSORREL_GSR_BO | FROSTSORREL_GSR_EP | FROSTSORREL_GSR_EW, 7);
     same_number("the slot in GSR", (uint32_t)FROSTSORREL_GSR_MIS >> FROSTSORREL_GSR_MIS_SHIFT,
-                FROSTSORREL_EMPTY_SLOT);
+                FROSTSORREL_GSR_MIS_EMPTY);
+    same_number("an empty slot in the image", FROSTSORREL_EMPTY_SLOT, FROSTSORREL_MAILBOXES);
     same_number("TSO in GSR", FROSTSORREL_GSR_TSO, 8);
     same_number("word 0", FROSTSORREL_IDE | FROSTSORREL_GAME | FROSTSORREL_RFH | FROSTSORREL_IDENTIFIER_BITS,
                 0xFFFFFFFF);
@@ -347,18 +358,20 @@ static void names(void)
     static const char *const outcomes[] = {"sent", "arbitration lost", "error", "no acknowledgement"};
     static const char *const modes[] = {"normal", "configuration", "sleep", "suspend", "none"};
     static const char *const reason_names[] = {"no name",     "disabled", "transmits", "IDE differs",
-                                               "bit differs", "matched",  "not heard"};
+                                               "bit differs", "matched",  "not heard", "protected"};
+    static const char *const profiles[] = {"CAN-B", "eCAN"};
     static const char *const refusals[] = {"accepted", "bad image", "unknown", "asleep", "not allowed",
                                            "busy", "locked", "slot empty", "bad trace", "no room"};
     static const char *const in_reason[] = {"taken", "the image is not", "there is no such", "while the model sleeps",
-                                            "the value or the DLC is not allowed", "being sent, or waits",
-                                            "in this mode", "an outcome came while nothing", "three sections",
+                                            "the value, the DLC or the profile", "being sent, or waits",
+                                            "in this mode or profile", "an outcome came while nothing", "three sections",
                                             "does not fit"};
 
     names_are("operation", frostsorrel_operation_name, operations, COUNT(operations));
     names_are("outcome", frostsorrel_outcome_name, outcomes, COUNT(outcomes));
     names_are("mode", frostsorrel_mode_name, modes, COUNT(modes));
     names_are("reason", frostsorrel_reason_name, reason_names, COUNT(reason_names));
+    names_are("profile", frostsorrel_profile_name, profiles, COUNT(profiles));
     names_are("refusal", frostsorrel_refusal_name, refusals, COUNT(refusals));
     for (uint32_t refusal = 0; refusal < COUNT(refusals); refusal++)
         check(strstr(frostsorrel_refusal_reason(refusal), in_reason[refusal]) != 0, "refusal %lu has the reason %s",
@@ -384,12 +397,20 @@ static void register_names(void)
         {FROSTSORREL_WORD_RECOVERY, "recovery count"},
         {FROSTSORREL_WORD_OPTIONS, "options"},
         {FROSTSORREL_WORD_TSO, "TSO"},
-        {28, "word 28"}, {31, "word 31"}, {33, "no name"},
+        {28, "word 28"}, {31, "word 31"}, {33, "no name"}, {63, "no name"},
+        {FROSTSORREL_PROTECTION, "protection"}, {97, "no name"}, {0xFFFFFFFF, "no name"},
     };
+    char mask[16];
 
     for (size_t i = 0; i < COUNT(registers); i++)
         same_name("register", registers[i].number, frostsorrel_register_name(registers[i].number),
                   registers[i].name);
+    for (uint32_t n = 0; n < FROSTSORREL_MAILBOXES; n++) {
+        snprintf(mask, sizeof mask, "mask %lu", (unsigned long)n);
+        same_name("register", 64 + n, frostsorrel_register_name(FROSTSORREL_MASK_0 + n), mask);
+    }
+    same_number("the last mask", FROSTSORREL_MASK_31, 95);
+    same_number("the protection", FROSTSORREL_PROTECTION, 96);
 }
 
 int main(int argc, char **argv)

@@ -1,10 +1,28 @@
 /*
- * Frostsorrel: a proved model of a CAN-B controller with 32 mailboxes.
+ * Frostsorrel: a proved model of a CAN controller with 32 mailboxes, of either of two makers: the CAN-B
+ * of the one, and the eCAN of the other, which differs in how it receives.
  *
- * A model is 640 bytes that belong to the caller: the image. Bytes 0 to 511 are the mailboxes, 16
- * bytes each; from byte 512 on stand the 32 register words, low byte first. The library keeps
- * nothing between calls, allocates nothing, and touches no other memory, so every image is a model
- * of its own. Link the archive with a C library: the compiled code may call memset and its like.
+ * A model is 776 bytes that belong to the caller: the image. Bytes 0 to 511 are the mailboxes, 16
+ * bytes each; from byte 512 on stand the 32 register words, low byte first, from 640 on 32 masks, at 768
+ * the protection, at 772 the profile. The library keeps nothing between calls, allocates nothing, and
+ * touches no other memory, so every image is a model of its own. Link the archive with a C library: the
+ * compiled code may call memset and its like.
+ *
+ * The profile says which controller it is: 0 a CAN-B, 1 an eCAN. frostsorrel_fresh sets it for good: no
+ * event changes it, a reset neither. What the two do not share:
+ *
+ *                                     CAN-B                           eCAN
+ *    a frame is compared              from mailbox 0 upwards          from mailbox 31 downwards
+ *    a mailbox with GAME is under     GAM, mailbox 31 under LAM       mask n of mailbox n
+ *    a frame held can be protected    no                              yes, by its bit of the protection
+ *    mailbox 31                       receives only                   is like the others
+ *    LAM, GAM                         are written                     refusal 6 for a write
+ *    masks, protection                refusal 6 for a write           are written
+ *    GSR                              is read                         refusal 2 for a read
+ *
+ * An eCAN passes over a receive mailbox that matches but has RMP set and its bit of the protection: it keeps
+ * what it holds, RML does not change, and the search goes on at the next one. So it is with remote frames too.
+ * In a CAN-B masks and protection do nothing, in an eCAN LAM and GAM; all of them can be read in both.
  *
  * A pointer and the length after it name the caller's bytes. The pointer must be valid, also where
  * the length is 0, and needs no alignment; nobody else may write those bytes during the call, and an
@@ -25,13 +43,13 @@
 extern "C" {
 #endif
 
-#define FROSTSORREL_VERSION "0.6.1"
+#define FROSTSORREL_VERSION "0.7.0"
 #define FROSTSORREL_VERSION_MAJOR 0
-#define FROSTSORREL_VERSION_MINOR 6
-#define FROSTSORREL_VERSION_PATCH 1
+#define FROSTSORREL_VERSION_MINOR 7
+#define FROSTSORREL_VERSION_PATCH 0
 
-#define FROSTSORREL_IMAGE_BYTES 640
-#define FROSTSORREL_IMAGE_WORDS 160 /* four of each mailbox, then the 32 register words */
+#define FROSTSORREL_IMAGE_BYTES 776
+#define FROSTSORREL_IMAGE_WORDS 194 /* four of each mailbox, 32 register words, 32 masks, protection, profile */
 #define FROSTSORREL_EVENT_BYTES 16
 #define FROSTSORREL_MAILBOXES 32
 #define FROSTSORREL_NO_MAILBOX 32
@@ -46,7 +64,7 @@ extern "C" {
 #define FROSTSORREL_STREAM_CLOSE_BYTES 16  /* room for what a closing writes */
 
 #define FROSTSORREL_ENTRY_BYTES 12        /* of a list of differences */
-#define FROSTSORREL_DIFFERENCE_BYTES 1920 /* room for any such list: an entry for each word */
+#define FROSTSORREL_DIFFERENCE_BYTES 2328 /* room for any such list: an entry for each word */
 
 #define FROSTSORREL_LINE_BYTES 8          /* of an explanation */
 #define FROSTSORREL_EXPLANATION_BYTES 256 /* room for any explanation: a line for each mailbox */
@@ -57,12 +75,18 @@ enum {
     FROSTSORREL_BAD_IMAGE = 1,   /* the image is not good; of a stream: its length, or the state */
     FROSTSORREL_UNKNOWN = 2,     /* no such operation, register, mailbox, word or outcome; no frame */
     FROSTSORREL_ASLEEP = 3,      /* not while the model sleeps */
-    FROSTSORREL_NOT_ALLOWED = 4, /* an unused byte is not 0, or the value or the DLC is not allowed */
+    FROSTSORREL_NOT_ALLOWED = 4, /* an unused byte is not 0, or the value, DLC or profile is not allowed */
     FROSTSORREL_BUSY = 5,        /* something is being sent, or waits to be */
-    FROSTSORREL_LOCKED = 6,      /* not in this mode, or not while the mailbox is enabled */
+    FROSTSORREL_LOCKED = 6,      /* not in this mode or profile, or not while the mailbox is enabled */
     FROSTSORREL_SLOT_EMPTY = 7,  /* an outcome, but nothing is being sent */
     FROSTSORREL_BAD_TRACE = 8,   /* the file is no trace, or the stream is over; no step answers it */
     FROSTSORREL_NO_ROOM = 9      /* what is to be written does not fit; no step answers it */
+};
+
+/* The profiles. */
+enum {
+    FROSTSORREL_CAN_B = 0,
+    FROSTSORREL_ECAN = 1
 };
 
 /* The operations of an event: its first byte. */
@@ -104,7 +128,7 @@ enum {
     FROSTSORREL_SUSPEND = 3
 };
 
-/* The registers, by the numbers of document 01. */
+/* The registers, by the numbers of documents 01 and 02. The profile has none. */
 enum {
     FROSTSORREL_MC = 0,
     FROSTSORREL_MD = 1,
@@ -128,7 +152,10 @@ enum {
     FROSTSORREL_TSC = 19,
     FROSTSORREL_TEC = 20,
     FROSTSORREL_REC = 21,
-    FROSTSORREL_GSR = 32
+    FROSTSORREL_GSR = 32,
+    FROSTSORREL_MASK_0 = 64,    /* the mask of mailbox n is FROSTSORREL_MASK_0 + n */
+    FROSTSORREL_MASK_31 = 95,
+    FROSTSORREL_PROTECTION = 96 /* a bit for each mailbox */
 };
 
 /* The words of the image behind the registers: nobody writes or reads them by number. */
@@ -140,11 +167,11 @@ enum {
     FROSTSORREL_WORD_OPTIONS = 26,
     FROSTSORREL_WORD_TSO = 27
 };
-enum { FROSTSORREL_NO_MODE = 4, FROSTSORREL_EMPTY_SLOT = 31 };
+enum { FROSTSORREL_NO_MODE = 4, FROSTSORREL_EMPTY_SLOT = 32 };
 
 /* Word 0 of a mailbox. The value of a frame event has IDE and the identifier in the same places. */
 #define FROSTSORREL_IDE 0x80000000u             /* the identifier is an extended one */
-#define FROSTSORREL_GAME 0x40000000u            /* GAM (LAM in mailbox 31) frees identifier bits */
+#define FROSTSORREL_GAME 0x40000000u            /* GAM (LAM in mailbox 31), in an eCAN its mask, frees bits */
 #define FROSTSORREL_RFH 0x20000000u             /* a transmit mailbox replies to remote frames */
 #define FROSTSORREL_IDENTIFIER_BITS 0x1FFFFFFFu /* a standard identifier is in the upper 11 of these */
 #define FROSTSORREL_FRAME_RTR 0x40000000u       /* in the value of a frame event: a remote frame */
@@ -183,9 +210,10 @@ enum {
     FROSTSORREL_GSR_CCE = 0x080,  /* configuration */
     FROSTSORREL_GSR_SUA = 0x100,  /* suspend */
     FROSTSORREL_GSR_TM = 0x400,   /* a mailbox is in the slot */
-    FROSTSORREL_GSR_MIS = 0x1F000 /* the slot's number */
+    FROSTSORREL_GSR_MIS = 0x1F000 /* the slot's number, or FROSTSORREL_GSR_MIS_EMPTY */
 };
 #define FROSTSORREL_GSR_MIS_SHIFT 12
+#define FROSTSORREL_GSR_MIS_EMPTY 31 /* in the image an empty slot is FROSTSORREL_EMPTY_SLOT, which these bits cannot hold */
 
 /* The options: the value of FROSTSORREL_OPTIONS. */
 enum {
@@ -200,7 +228,8 @@ enum {
     FROSTSORREL_IDE_DIFFERS = 3, /* one is standard and the other extended, and no mask frees IDE */
     FROSTSORREL_BIT_DIFFERS = 4, /* an identifier bit that is compared and not freed */
     FROSTSORREL_MATCHED = 5,     /* the search stops here */
-    FROSTSORREL_NOT_HEARD = 6    /* no mailbox: the model takes no part on the bus */
+    FROSTSORREL_NOT_HEARD = 6,   /* no mailbox: the model takes no part on the bus */
+    FROSTSORREL_PROTECTED = 7    /* it matches, but keeps the frame it holds: the search goes on; before 5 */
 };
 
 /*
@@ -215,13 +244,15 @@ enum { FROSTSORREL_WARNING_ABOVE = 96, FROSTSORREL_PASSIVE_ABOVE = 127, FROSTSOR
 /*
  * Makes the image of a model that has just been switched on.
  *
- * image_len is 640: whatever the bytes held, all of them are 0 afterwards, but for four words: MD is
- * 0x80000000 (mailbox 31 receives), the mode is 1 (configuration), the waiting mode is 4 (none) and
- * the slot is 31 (empty). The answer is 8192: refusal 0, mailbox 32, count 0.
+ * image_len is 776, and profile 0 (CAN-B) or 1 (eCAN): whatever the bytes held, all of them are 0 afterwards,
+ * but for these words: the mode is 1 (configuration), the waiting mode is 4 (none), the slot is 32 (empty),
+ * the profile is the one asked for, and MD is 0x80000000 in a CAN-B, where mailbox 31 always receives. The
+ * answer is 8192: refusal 0, mailbox 32, count 0.
  *
  * Any other image_len: no byte is written. The answer is 8193: refusal 1, mailbox 32, count 0.
+ * 776, and any other profile: no byte is written. The answer is 8196: refusal 4, mailbox 32, count 0.
  */
-uint64_t frostsorrel_fresh(uint8_t *image, size_t image_len);
+uint64_t frostsorrel_fresh(uint8_t *image, size_t image_len, uint32_t profile);
 
 /*
  * Feeds one event to the model: the image becomes the next one.
@@ -230,7 +261,7 @@ uint64_t frostsorrel_fresh(uint8_t *image, size_t image_len);
  * eight data bytes. Bytes that the operation does not use must be 0; in this table they are blank:
  *
  *    operation                   target      word    value
- *    0  register write           0 to 19             what is written
+ *    0  register write           0 to 19, 64 to 96   what is written
  *    1  mailbox write            0 to 31     0 to 3  what is written
  *    2  frame                    DLC 0 to 15         bit 31 IDE, 30 RTR, 28 to 0 identifier
  *    3  start of a sending
@@ -247,28 +278,28 @@ uint64_t frostsorrel_fresh(uint8_t *image, size_t image_len);
  * A refused event gets the lowest number that applies, mailbox 32 and count 0, and not one byte of
  * the image is written:
  *
- *   1  the image is not good (a length other than 640 included)
+ *   1  the image is not good (a length other than 776 included, as the 640 of old images)
  *   2  event_len is not 16; or there is no such operation, register, mailbox, word or outcome; or it
  *      writes RML or RFP, which can only be read
  *   3  the model is asleep, and this is a register write, a mailbox write or options
  *   4  an unused byte is not 0; or a frame has a DLC above 15; or the value is not allowed, as one that
- *      breaks the layout of word 0 or 1 of a mailbox
+ *      breaks the layout of word 0 or 1 of a mailbox, or a mask with bit 30 or 29
  *   5  busy: a frame, start or receive error while a mailbox is in the slot; a write to that mailbox,
  *      or to one whose TRS is set and CDR is not; an MC write that turns off, or an MD write that
  *      turns round, a mailbox with TRS set
  *   6  locked: an MD write that turns round an enabled mailbox; BCR1 or BCR2 outside configuration;
  *      a mailbox write to word 0 of an enabled mailbox, or to words 2 and 3 if it receives, or sends
  *      with RFH set and CDR clear; a change of mode that neither leaves nor enters normal; leaving
- *      configuration with a BCR2 that cannot work
+ *      configuration with a BCR2 that cannot work; masks or protection in a CAN-B, LAM or GAM in an eCAN
  *   7  an outcome while no mailbox is in the slot
  *
  * An accepted event leaves a good image again, the one that document 01 lays down (its sections
- * "Writing", "Receiving" and "Sending, errors, modes"; for outcome 3 request b) of document 02, and for
- * a DLC above 8 its request c); docs/DECISIONS.md settles what they leave open), and the answer has
- * refusal 0 and
+ * "Writing", "Receiving" and "Sending, errors, modes"; for outcome 3 request b) of document 02, for
+ * a DLC above 8 its request c), for an eCAN its request g); docs/DECISIONS.md settles what they leave open),
+ * and the answer has refusal 0 and
  *
  *   for a frame      the mailbox that stored it or is to reply to it, else 32; the count says how
- *                    many mailboxes were compared with it
+ *                    many mailboxes were compared with it, those among them that it was passed over by
  *   for a start      the mailbox that went into the slot, else 32; count 0
  *   for an outcome   the mailbox that was in the slot; count 0
  *   for the rest     mailbox 32, count 0
@@ -278,10 +309,13 @@ uint64_t frostsorrel_step(uint8_t *image, size_t image_len, const uint8_t *event
 /*
  * Reads one register. No byte of the image is ever written. The first line that applies decides:
  *
- *   the image is not good (a length other than 640 included)    refusal 1, value 0
- *   number is neither 0 to 21 nor 32                            refusal 2, value 0
+ *   the image is not good (a length other than 776 included)    refusal 1, value 0
+ *   number is neither 0 to 21 nor 32 nor 64 to 96               refusal 2, value 0
+ *   number is 32, and the model is an eCAN                      refusal 2, value 0
  *   the model is asleep                                         GSR is 0x0001F040, any other is 0
  *   number is 0 to 21                                           that register word of the image
+ *   number is 64 to 95                                          the mask of mailbox number - 64
+ *   number is 96                                                the protection
  *   number is 32                                                GSR, made from the image:
  *
  *   bits 16 to 12  the slot's number, 31 where it is empty      bit 6  sleep
@@ -295,7 +329,7 @@ uint64_t frostsorrel_step(uint8_t *image, size_t image_len, const uint8_t *event
 uint64_t frostsorrel_read(const uint8_t *image, size_t image_len, uint32_t number);
 
 /*
- * Runs a whole trace from a fresh model and writes its listing, the text that `replay` prints.
+ * Runs a whole trace from a fresh CAN-B and writes its listing, the text that `replay` prints.
  *
  * A trace is three sections, one behind the other and nothing after them: mailbox writes; register
  * writes and options; any events. A section is a count in two bytes, low byte first, at most 1,000,
@@ -316,8 +350,8 @@ uint64_t frostsorrel_listing(const uint8_t *trace, size_t trace_len, uint8_t *te
  * behind the other, the last image and the last refusal are the same; of a well-formed trace the lines are
  * what frostsorrel_listing writes.
  *
- * A stream is two things of the caller's: an image of 640 bytes, and a state of 32. It keeps no copy of the
- * trace. Opening makes both, whatever they held, and a new opening starts over.
+ * A stream is two things of the caller's: an image of 776 bytes, and a state of 32. It keeps no copy of the
+ * trace. Opening makes both, whatever they held, the image that of a fresh CAN-B; a new opening starts over.
  *
  *   frostsorrel_stream_open    writes `step code mailbox count`
  *   frostsorrel_stream_feed    feeds each event to the image as its 16th byte comes, and writes its line,
@@ -333,7 +367,7 @@ uint64_t frostsorrel_listing(const uint8_t *trace, size_t trace_len, uint8_t *te
  *
  * The first line that applies decides:
  *
- *   image_len is not 640, or state_len is not 32                          refusal 1
+ *   image_len is not 776, or state_len is not 32                          refusal 1
  *   feeding, closing: the stream is over                                  refusal 8, 0 bytes
  *   feeding, closing: no call leaves such a state                         refusal 1
  *   what this call writes is longer than text_len                         refusal 9
@@ -390,19 +424,20 @@ uint64_t frostsorrel_stream_close(uint8_t *image, size_t image_len, uint8_t *sta
  * Compares two images and lists every word in which they differ.
  *
  * The words of an image are numbered from its first byte: 4 * mailbox + word for those of a mailbox,
- * 128 + number for the register words, 0 to 159 in all. The list has one entry for each word that
- * differs and none for an equal one, in rising order. An entry is 12 bytes: the word's number, what
- * the first image has there, what the second has, each in four bytes, low byte first. The second
- * contents, put in their places in the first image, make the second.
+ * 128 + number for the register words, 160 + mailbox for the masks, 192 for the protection and 193 for the
+ * profile. The list has one entry for each word that differs and none for an equal one, in rising order. An
+ * entry is 12 bytes: the word's number, what the first image has there, what the second has, each in four
+ * bytes, low byte first. The second contents, put in their places in the first image, make the second. The two
+ * may be of different profiles.
  *
  * The first line that applies decides:
  *
- *   first or second is not a good image (a length other than 640 included)    refusal 1
+ *   first or second is not a good image (a length other than 776 included)    refusal 1
  *   12 bytes for each entry are more than list_len                            refusal 9
  *
  * A refused call writes no byte and answers mailbox 32, count 0. Any other puts the list at the front
  * of `list`, where every byte past it stays, and answers refusal 0, mailbox 32, and in the count how
- * many entries there are. Two equal images have an empty list, which fits a list_len of 0; 1,920 bytes
+ * many entries there are. Two equal images have an empty list, which fits a list_len of 0; 2,328 bytes
  * are room for any. The images are only read, and may be the same one; `list` may not overlap either.
  */
 uint64_t frostsorrel_compare(const uint8_t *first, size_t first_len, const uint8_t *second,
@@ -413,21 +448,23 @@ uint64_t frostsorrel_compare(const uint8_t *first, size_t first_len, const uint8
  * one, up to the one that is. The image is only read: it is the model before the frame.
  *
  * The event is a frame as frostsorrel_step takes it. A line is 8 bytes: mailbox, reason, bit, five zeros.
- * A frame that is heard (normal mode, TEC below 256) gets a line for mailbox 0, 1 and so on, disabled ones
- * too, up to and with the first that gets reason 5, where the search of a step stops; where none does, for
- * all 32. The reason of a line is the first of these that holds of its mailbox:
+ * A frame that is heard (normal mode, TEC below 256) gets a line for mailbox 0, 1 and so on, in an eCAN for
+ * 31, 30 and so on, disabled ones too, up to and with the first that gets reason 5, where the search of a step
+ * stops; where none does, for all 32. The reason of a line is the first of these that holds of its mailbox:
  *
  *   1  it is not enabled in MC
  *   2  it transmits, and the frame is a data frame
  *   3  IDE differs
  *   4  a bit of the identifier differs; `bit` is the highest such, by its number in word 0
+ *   7  in an eCAN: it receives, its RMP is set, and its bit of the protection; the frame is passed over
  *   5  none of these: it matched
  *
  * What is compared goes by the frame: bits 28 to 18 of the identifier if it is standard, 28 to 0 if it is
- * extended. A mailbox whose word 0 has GAME does not differ where GAM (LAM for mailbox 31) has a 1: bits 28 to
- * 0 of the mask free the same bits of the identifier, bit 31 frees IDE. Matched is also a transmit mailbox
- * with RFH 0, which ends the search though a step then answers mailbox 32. The lines with reasons 3, 4 and 5
- * are as many as the count of a step that takes the frame. But for reason 4, and 6 below, `bit` is 0.
+ * extended. A mailbox whose word 0 has GAME does not differ where GAM (LAM for mailbox 31), in an eCAN its own
+ * mask, has a 1: bits 28 to 0 of the mask free the same bits of the identifier, bit 31 frees IDE. Matched is
+ * also a transmit mailbox with RFH 0, which ends the search though a step then answers mailbox 32. The lines
+ * with reasons 3, 4, 5 and 7 are as many as the count of a step that takes the frame. But for reason 4, and 6
+ * below, `bit` is 0.
  *
  * Outside normal mode and in bus off no mailbox is asked. There is one line then: mailbox 32, reason 6, and
  * in the place of the bit the mode, 1 to 3, or 4 in bus off; asleep with WUBA too, where a step wakes the
@@ -436,7 +473,7 @@ uint64_t frostsorrel_compare(const uint8_t *first, size_t first_len, const uint8
  *
  * The first of these that applies decides:
  *
- *   the image is not good (a length other than 640 included)                        refusal 1
+ *   the image is not good (a length other than 776 included)                        refusal 1
  *   event_len is not 16, or the operation is not 2                                  refusal 2
  *   an unused byte of the event is not 0, or its DLC or value is not allowed: all
  *   for which a step answers 4                                                      refusal 4
@@ -579,6 +616,22 @@ static inline uint32_t frostsorrel_register_word(const uint8_t *image, uint32_t 
     return frostsorrel_word(image + 16 * FROSTSORREL_MAILBOXES + 4 * number);
 }
 
+/* The mask of mailbox 0 to 31, the protection and the profile, as they stand in the image. */
+static inline uint32_t frostsorrel_mask_word(const uint8_t *image, uint32_t mailbox)
+{
+    return frostsorrel_word(image + 20 * FROSTSORREL_MAILBOXES + 4 * mailbox);
+}
+
+static inline uint32_t frostsorrel_protection_word(const uint8_t *image)
+{
+    return frostsorrel_word(image + FROSTSORREL_IMAGE_BYTES - 8);
+}
+
+static inline uint32_t frostsorrel_profile_word(const uint8_t *image)
+{
+    return frostsorrel_word(image + FROSTSORREL_IMAGE_BYTES - 4);
+}
+
 /* Word 0 to 3 of the state of a stream. */
 static inline uint32_t frostsorrel_stream_word(const uint8_t *state, uint32_t word)
 {
@@ -587,7 +640,10 @@ static inline uint32_t frostsorrel_stream_word(const uint8_t *state, uint32_t wo
 
 /* ---- lists of differences: entry 0 and on, as many as the answer counts */
 
-/* The number of the word: 4 * mailbox + word, or 128 + the number of a register word. */
+/*
+ * The number of the word: 4 * mailbox + word, 128 + the number of a register word, 160 + the mailbox of a mask,
+ * 192 for the protection, 193 for the profile.
+ */
 static inline uint32_t frostsorrel_entry_number(const uint8_t *list, size_t entry)
 {
     return frostsorrel_word(list + FROSTSORREL_ENTRY_BYTES * entry);
@@ -612,7 +668,7 @@ static inline uint32_t frostsorrel_line_mailbox(const uint8_t *list, size_t line
     return list[FROSTSORREL_LINE_BYTES * line];
 }
 
-/* FROSTSORREL_DISABLED to FROSTSORREL_NOT_HEARD. */
+/* FROSTSORREL_DISABLED to FROSTSORREL_PROTECTED. */
 static inline uint32_t frostsorrel_line_reason(const uint8_t *list, size_t line)
 {
     return list[FROSTSORREL_LINE_BYTES * line + 1];
@@ -666,14 +722,24 @@ static inline const char *frostsorrel_name_of(const char *const *names, size_t c
     return number < count ? names[number] : "no name";
 }
 
-/* A register, and the other words of the block: "MC" to "REC", "mode" to "TSO", "word 28" on; "GSR". */
+/*
+ * A register, and the other words of the block: "MC" to "REC", "mode" to "TSO", "word 28" on; "GSR"; from 64 on
+ * "mask 0" to "mask 31" and "protection".
+ */
 static inline const char *frostsorrel_register_name(uint32_t number)
 {
+    static const char *const own[] = {
+        "mask 0",  "mask 1",  "mask 2",  "mask 3",  "mask 4",  "mask 5",  "mask 6",  "mask 7",  "mask 8",
+        "mask 9",  "mask 10", "mask 11", "mask 12", "mask 13", "mask 14", "mask 15", "mask 16", "mask 17",
+        "mask 18", "mask 19", "mask 20", "mask 21", "mask 22", "mask 23", "mask 24", "mask 25", "mask 26",
+        "mask 27", "mask 28", "mask 29", "mask 30", "mask 31", "protection"};
     static const char *const names[] = {
         "MC", "MD", "TRS", "TRR", "TA", "AA", "RMP", "RML", "LAM", "GAM", "RFP", "CDR", "MBTIF",
         "MBRIF", "MBIM", "GIF", "GIM", "BCR1", "BCR2", "TSC", "TEC", "REC", "mode", "waiting mode",
         "slot", "recovery count", "options", "TSO", "word 28", "word 29", "word 30", "word 31", "GSR"};
 
+    if (number >= FROSTSORREL_MASK_0)
+        return frostsorrel_name_of(own, sizeof own / sizeof own[0], number - FROSTSORREL_MASK_0);
     return frostsorrel_name_of(names, sizeof names / sizeof names[0], number);
 }
 
@@ -710,11 +776,18 @@ static inline const char *frostsorrel_mode_name(uint32_t mode)
     return frostsorrel_name_of(names, sizeof names / sizeof names[0], mode);
 }
 
-/* A reason of an explanation, 1 to 6. */
+static inline const char *frostsorrel_profile_name(uint32_t profile)
+{
+    static const char *const names[] = {"CAN-B", "eCAN"};
+
+    return frostsorrel_name_of(names, sizeof names / sizeof names[0], profile);
+}
+
+/* A reason of an explanation, 1 to 7. */
 static inline const char *frostsorrel_reason_name(uint32_t reason)
 {
     static const char *const names[] = {"no name",     "disabled", "transmits", "IDE differs",
-                                        "bit differs", "matched",  "not heard"};
+                                        "bit differs", "matched",  "not heard", "protected"};
 
     return frostsorrel_name_of(names, sizeof names / sizeof names[0], reason);
 }
@@ -735,9 +808,9 @@ static inline const char *frostsorrel_refusal_reason(uint32_t refusal)
         "the image is not one that the rules allow",
         "there is no such operation, register, mailbox, word or outcome, or it can only be read",
         "registers, mailboxes and options cannot be written while the model sleeps",
-        "the value or the DLC is not allowed, or a byte that the event does not use is not 0",
+        "the value, the DLC or the profile is not allowed, or a byte that the event does not use is not 0",
         "a mailbox is being sent, or waits to be",
-        "this cannot be changed in this mode, or while the mailbox is enabled",
+        "this cannot be changed in this mode or profile, or while the mailbox is enabled",
         "an outcome came while nothing was being sent",
         "the file is not three sections of events that may stand there",
         "what is to be written does not fit the bytes that it is to stand in"};
