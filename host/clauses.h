@@ -1,6 +1,7 @@
 /*
- * Good and bad images: document 01's rule, clause by clause, as hand-made images with the verdict. A
- * test hands in the way to ask, so that every call that judges an image can be put to them.
+ * Good and bad images: the rule of documents 01 and 02, clause by clause, as hand-made images with the verdict,
+ * each in both profiles. A test hands in the way to ask, so that every call that judges an image can be put to
+ * them.
  */
 #ifndef CLAUSES_H
 #define CLAUSES_H
@@ -12,36 +13,39 @@ typedef void judge(const char *what, const uint8_t *image, int good);
 
 /* ---- good image: each clause broken alone, and its nearest neighbours that are good.
  *
- * Some clauses of document 01 follow from others and cannot be broken alone: bit 31 of TRS (MD has
- * it, and they share no bit); TRR's bit 31, "within TRS" and "zero asleep" (a filled slot is normal
- * mode, has its TRS bit and is not 31); a slot above 31 (it has no TRS bit). Their lines break
+ * Some clauses of document 01 follow from others and cannot be broken alone. Of a CAN-B: bit 31 of TRS (MD has
+ * it, and they share no bit), TRR's bit 31, and that the slot is not 31 (it would need that bit of TRS). Of
+ * both: TRR "within TRS" and "zero asleep" (a filled slot is normal mode and has its TRS bit). Their lines break
  * those too. */
 
-#define GOOD 1
-#define BAD 0
+/* A bit for each profile in which the image is good. */
+enum verdict { BAD = 0, GOOD_CAN_B = 1 << CAN_B, GOOD_ECAN = 1 << ECAN, GOOD = GOOD_CAN_B | GOOD_ECAN };
 
 static const struct clause {
     const char *what;
     enum state state;
     struct edit edits[EDITS];
-    int good;
+    enum verdict good;
 } clauses[] = {
     /* MD bit 31 */
-    {"MD without bit 31", FRESH, {SET(MD, 0x7FFFFFFF)}, BAD},
-    {"MD zero", FRESH, {SET(MD, 0)}, BAD},
+    {"MD without bit 31", FRESH, {SET(MD, 0x7FFFFFFF)}, GOOD_ECAN},
+    {"MD zero", FRESH, {SET(MD, 0)}, GOOD_ECAN},
+    {"MD bit 31 alone", FRESH, {SET(MD, 0x80000000)}, GOOD},
     {"MD all", FRESH, {SET(MD, 0xFFFFFFFF)}, GOOD},
     /* bit 31 clear */
-    {"TRS bit 31", NORMAL, {SET(TRS, 0x80000000)}, BAD},
+    {"TRS bit 31", NORMAL, {SET(TRS, 0x80000000)}, GOOD_ECAN},
+    {"TRS and MD bit 31", NORMAL, {SET(TRS, 0x80000000), SET(MD, 0x80000000)}, BAD},
+    {"TRS bit 31, MD all others", NORMAL, {SET(TRS, 0x80000000), SET(MD, 0x7FFFFFFF)}, GOOD_ECAN},
     {"TRS all below 31", NORMAL, {SET(TRS, 0x7FFFFFFF)}, GOOD},
     {"TRR bit 31", NORMAL, {SET(TRR, 0x80000000)}, BAD},
     {"TRR bit 31, sending", SENDING, {SET(TRR, 0x80000000)}, BAD},
-    {"TA bit 31", NORMAL, {SET(TA, 0x80000000)}, BAD},
+    {"TA bit 31", NORMAL, {SET(TA, 0x80000000)}, GOOD_ECAN},
     {"TA all below 31", NORMAL, {SET(TA, 0x7FFFFFFF)}, GOOD},
-    {"AA bit 31", NORMAL, {SET(AA, 0x80000000)}, BAD},
+    {"AA bit 31", NORMAL, {SET(AA, 0x80000000)}, GOOD_ECAN},
     {"AA all below 31", NORMAL, {SET(AA, 0x7FFFFFFF)}, GOOD},
-    {"CDR bit 31", NORMAL, {SET(CDR, 0x80000000)}, BAD},
+    {"CDR bit 31", NORMAL, {SET(CDR, 0x80000000)}, GOOD_ECAN},
     {"CDR all below 31", NORMAL, {SET(CDR, 0x7FFFFFFF)}, GOOD},
-    {"MBTIF bit 31", NORMAL, {SET(MBTIF, 0x80000000)}, BAD},
+    {"MBTIF bit 31", NORMAL, {SET(MBTIF, 0x80000000)}, GOOD_ECAN},
     {"MBTIF all below 31", NORMAL, {SET(MBTIF, 0x7FFFFFFF)}, GOOD},
     /* TRS and MD share no bit */
     {"TRS at a receive mailbox", NORMAL, {SET(TRS, 1), SET(MD, 0x80000001)}, BAD},
@@ -80,7 +84,17 @@ static const struct clause {
     {"slot 30", SENDING, {SET(SLOT, 30), SET(TRS, 1u << 30), SET(MC, 1u << 30)}, GOOD},
     {"slot 0", SENDING, {SET(SLOT, 0), SET(TRS, 1), SET(MC, 1)}, GOOD},
     {"slot 0 without its bits", SENDING, {SET(SLOT, 0)}, BAD},
-    {"slot 32", SENDING, {SET(SLOT, 32), SET(TRS, 0x7FFFFFFF), SET(MC, 0xFFFFFFFF)}, BAD},
+    {"slot 31", SENDING, {SET(SLOT, 31), SET(TRS, 1u << 31), SET(MC, 1u << 31)}, GOOD_ECAN},
+    {"slot 31, as a CAN-B has MD", SENDING,
+     {SET(SLOT, 31), SET(TRS, 1u << 31), SET(MC, 1u << 31), SET(MD, 1u << 31)}, BAD},
+    {"slot 31, mailbox 31 receives", SENDING, {SET(SLOT, 31), SET(MC, 0xFFFFFFFF), SET(MD, 1u << 31)}, BAD},
+    {"slot 31 with an empty slot's words", NORMAL, {SET(SLOT, 31)}, BAD},
+    {"slot 31 in configuration", FRESH, {SET(SLOT, 31)}, BAD},
+    {"slot 31 without its MC", SENDING, {SET(SLOT, 31), SET(TRS, 1u << 31), SET(MC, 0x7FFFFFFF)}, BAD},
+    {"slot 32 is empty", SENDING, {SET(SLOT, 32), SET(TRS, 0x7FFFFFFF), SET(MC, 0xFFFFFFFF)}, GOOD},
+    {"slot 32 is not slot 0", SENDING, {SET(SLOT, 32), SET(TRS, 1), SET(MC, 1), SET(TRR, 1)}, BAD},
+    {"slot 32, and a TRR left", SENDING, {SET(SLOT, 32), SET(TRR, 8)}, BAD},
+    {"slot 33", SENDING, {SET(SLOT, 33), SET(TRS, 0x7FFFFFFF), SET(MC, 0xFFFFFFFF)}, BAD},
     {"slot 35 is not slot 3", SENDING, {SET(SLOT, 35)}, BAD},
     {"empty slot, requests wait", NORMAL, {SET(TRS, 8), SET(MC, 8)}, GOOD},
     /* TEC 256 and the recovery count */
@@ -113,11 +127,16 @@ static const struct clause {
     {"asleep, TRR", ASLEEP, {SET(TRR, 1)}, BAD},
     {"asleep, frames held", ASLEEP, {SET(RMP, 7), SET(RML, 3), SET(MC, 7), SET(TA, 8)}, GOOD},
     /* two clauses broken alike: one must not make up for the other */
-    {"TA and AA bit 31", NORMAL, {SET(TA, 0x80000000), SET(AA, 0x80000000)}, BAD},
-    {"CDR and MBTIF bit 31", NORMAL, {SET(CDR, 0x80000000), SET(MBTIF, 0x80000000)}, BAD},
-    {"AA and CDR bit 31", NORMAL, {SET(AA, 0x80000000), SET(CDR, 0x80000000)}, BAD},
-    {"MBTIF bit 31 and MD not", NORMAL, {SET(MBTIF, 0x80000000), SET(MD, 0)}, BAD},
+    {"TA and AA bit 31", NORMAL, {SET(TA, 0x80000000), SET(AA, 0x80000000)}, GOOD_ECAN},
+    {"CDR and MBTIF bit 31", NORMAL, {SET(CDR, 0x80000000), SET(MBTIF, 0x80000000)}, GOOD_ECAN},
+    {"AA and CDR bit 31", NORMAL, {SET(AA, 0x80000000), SET(CDR, 0x80000000)}, GOOD_ECAN},
+    {"MBTIF bit 31 and MD not", NORMAL, {SET(MBTIF, 0x80000000), SET(MD, 0)}, GOOD_ECAN},
     {"LAM and GAM bit 30", NORMAL, {SET(LAM, 1u << 30), SET(GAM, 1u << 30)}, BAD},
+    {"masks 0 and 1 bit 30", NORMAL, {SET(MASK(0), 1u << 30), SET(MASK(1), 1u << 30)}, BAD},
+    {"masks 6 and 8 bit 29", NORMAL, {SET(MASK(6), 1u << 29), SET(MASK(8), 1u << 29)}, BAD},
+    {"mask 31 and GAM bit 29", NORMAL, {SET(MASK(31), 1u << 29), SET(GAM, 1u << 29)}, BAD},
+    {"masks 3 and 4, one bit each", NORMAL, {SET(MASK(3), 1u << 29), SET(MASK(4), 1u << 30)}, BAD},
+    {"profile 2 and TSO 2", NORMAL, {SET(PROFILE, 2), SET(TSO, 2)}, BAD},
     {"GIF and GIM 256", NORMAL, {SET(GIF, 256), SET(GIM, 256)}, BAD},
     {"GIM and REC 256", NORMAL, {SET(GIM, 256), SET(REC, 256)}, BAD},
     {"BCR1 and BCR2 1024", NORMAL, {SET(BCR1, 1024), SET(BCR2, 1024)}, BAD},
@@ -145,15 +164,38 @@ static const struct clause {
     {"interrupts that MBIM does not let through", NORMAL, {SET(MBRIF, 1), SET(MBTIF, 2)}, GOOD},
     {"all of MC, MBRIF, MBIM", FRESH,
      {SET(MC, 0xFFFFFFFF), SET(MBRIF, 0xFFFFFFFF), SET(MBIM, 0xFFFFFFFF)}, GOOD},
+    {"all of the protection", FRESH, {SET(PROTECTION, 0xFFFFFFFF)}, GOOD},
+    {"protection of what is held, and of what is not", NORMAL, {SET(PROTECTION, 6), SET(RMP, 2)}, GOOD},
+    {"protection of a transmit mailbox", SENDING, {SET(PROTECTION, 8)}, GOOD},
+    {"protection asleep", ASLEEP, {SET(PROTECTION, 0x80000001), SET(MASK(31), 0x9FFFFFFF)}, GOOD},
+    {"LAM, GAM and masks at once", NORMAL,
+     {SET(LAM, 0x9FFFFFFF), SET(GAM, 0x9FFFFFFF), SET(MASK(0), 0x9FFFFFFF), SET(MASK(31), 0x9FFFFFFF)}, GOOD},
+    /* the profile of the other one */
+    {"the words of this profile, as an eCAN's", NORMAL, {SET(PROFILE, ECAN)}, GOOD},
+    {"the words of this profile, as a CAN-B's", NORMAL, {SET(PROFILE, CAN_B)}, GOOD_CAN_B}, /* MD bit 31 */
+    {"the words of a CAN-B, as an eCAN's", NORMAL, {SET(MD, 0x80000000), SET(PROFILE, ECAN)}, GOOD},
+    {"the words of a CAN-B", NORMAL, {SET(MD, 0x80000000), SET(PROFILE, CAN_B)}, GOOD},
 };
 
-static inline void ask_clauses(judge *ask)
+/* Who is asked, and the profile that the images start from. */
+struct asked {
+    judge *ask;
+    uint32_t profile;
+};
+
+/* The profile that the image starts from decides, whatever the edits make of it. */
+static inline int good_in(enum verdict good, uint32_t profile)
+{
+    return good >> profile & 1;
+}
+
+static inline void ask_clauses(struct asked by)
 {
     uint8_t image[BYTES];
 
     for (size_t i = 0; i < COUNT(clauses); i++) {
-        make(image, clauses[i].state, clauses[i].edits);
-        ask(clauses[i].what, image, clauses[i].good);
+        make_of(image, by.profile, clauses[i].state, clauses[i].edits);
+        by.ask(clauses[i].what, image, good_in(clauses[i].good, by.profile));
     }
 }
 
@@ -168,35 +210,35 @@ static const struct limit {
     {"BCR1", NORMAL, BCR1, 1023},       {"BCR2", NORMAL, BCR2, 1023},
     {"TSC", NORMAL, TSC, 65535},        {"TEC", NORMAL, TEC, 256},
     {"REC", NORMAL, REC, 255},          {"mode", FRESH, MODE, 3},
-    {"waiting mode", SENDING, WAITING, 4}, {"slot", NORMAL, SLOT, 31},
+    {"waiting mode", SENDING, WAITING, 4}, {"slot", NORMAL, SLOT, 32},
     {"recovery", BUS_OFF, RECOVERY, 127},  {"options", NORMAL, OPTIONS, 3},
     {"TSO", NORMAL, TSO, 1},            {"word 28", NORMAL, SPARE, 0},
     {"word 29", NORMAL, SPARE + 1, 0},  {"word 30", NORMAL, SPARE + 2, 0},
-    {"word 31", NORMAL, SPARE + 3, 0},
+    {"word 31", NORMAL, SPARE + 3, 0},  {"profile", NORMAL, PROFILE, 1},
 };
 
-static inline void ask_limit(judge *ask, struct limit l)
+static inline void ask_limit(struct asked by, struct limit l)
 {
     uint8_t image[BYTES];
 
-    make_with(image, l.state, l.word, l.most);
-    ask(l.what, image, GOOD);
-    make_with(image, l.state, l.word, l.most + 1);
-    ask(l.what, image, BAD);
+    make_with_of(image, by.profile, l.state, l.word, l.most);
+    by.ask(l.what, image, 1);
+    make_with_of(image, by.profile, l.state, l.word, l.most + 1);
+    by.ask(l.what, image, 0);
     for (int bit = 31; bit >= 0 && 1u << bit > l.most; bit--) {
-        make_with(image, l.state, l.word, 1u << bit);
-        ask(l.what, image, BAD);
+        make_with_of(image, by.profile, l.state, l.word, 1u << bit);
+        by.ask(l.what, image, 0);
     }
 }
 
-static inline void ask_limits(judge *ask)
+static inline void ask_limits(struct asked by)
 {
     for (size_t i = 0; i < COUNT(limits); i++)
-        ask_limit(ask, limits[i]);
+        ask_limit(by, limits[i]);
 }
 
 /* Clauses over two words, at every mailbox: with exactly its bit, and with all bits but that. */
-static inline void ask_each_bit(judge *ask, uint32_t n)
+static inline void ask_each_bit(struct asked by, uint32_t n)
 {
     uint8_t image[BYTES];
     uint32_t bit = 1u << n;
@@ -206,97 +248,122 @@ static inline void ask_each_bit(judge *ask, uint32_t n)
     const struct edit shared[EDITS] = {SET(TRS, bit), SET(MD, bit | 0x80000000)};
     const struct edit apart[EDITS] = {SET(TRS, bit), SET(MD, ~bit)};
 
-    make(image, NORMAL, lost);
-    ask("RML at each mailbox", image, BAD);
-    make(image, NORMAL, remote);
-    ask("RFP at each mailbox", image, BAD);
-    make(image, NORMAL, both);
-    ask("RML and RFP at each mailbox", image, GOOD);
-    make(image, NORMAL, shared);
-    ask("TRS and MD at each mailbox", image, BAD);
-    make(image, NORMAL, apart);
-    ask("TRS apart from MD at each mailbox", image, n == 31 ? BAD : GOOD);
+    make_of(image, by.profile, NORMAL, lost);
+    by.ask("RML at each mailbox", image, 0);
+    make_of(image, by.profile, NORMAL, remote);
+    by.ask("RFP at each mailbox", image, 0);
+    make_of(image, by.profile, NORMAL, both);
+    by.ask("RML and RFP at each mailbox", image, 1);
+    make_of(image, by.profile, NORMAL, shared);
+    by.ask("TRS and MD at each mailbox", image, 0);
+    make_of(image, by.profile, NORMAL, apart);
+    by.ask("TRS apart from MD at each mailbox", image, n < 31 || by.profile == ECAN);
 }
 
-/* A filled slot at mailbox n: TRR there alone, TRS and MC needed there. */
-static inline void ask_each_slot(judge *ask, uint32_t n)
+/* A filled slot at mailbox n: TRR there alone, TRS and MC needed there. Mailbox 31 of a CAN-B is in no slot. */
+static inline void ask_each_slot(struct asked by, uint32_t n)
 {
     uint8_t image[BYTES];
-    uint32_t bit = 1u << n, others = 0x7FFFFFFF & ~bit;
-    const struct edit full[EDITS] = {SET(SLOT, n), SET(TRS, 0x7FFFFFFF), SET(MC, bit)};
+    uint32_t bit = 1u << n, all = by.profile == ECAN ? 0xFFFFFFFF : 0x7FFFFFFF | bit, others = all & ~bit;
+    const struct edit full[EDITS] = {SET(SLOT, n), SET(TRS, all), SET(MC, bit)};
     const struct edit trr[EDITS] = {SET(SLOT, n), SET(TRS, bit), SET(MC, bit), SET(TRR, bit)};
     const struct edit no_trs[EDITS] = {SET(SLOT, n), SET(TRS, others), SET(MC, bit)};
-    const struct edit no_mc[EDITS] = {SET(SLOT, n), SET(TRS, 0x7FFFFFFF), SET(MC, ~bit)};
+    const struct edit no_mc[EDITS] = {SET(SLOT, n), SET(TRS, all), SET(MC, ~bit)};
+    int sends = n < 31 || by.profile == ECAN;
 
-    make(image, NORMAL, full);
-    ask("each slot", image, GOOD);
+    make_of(image, by.profile, NORMAL, full);
+    by.ask("each slot", image, sends);
     put(image, TRR, others);
-    ask("TRR beside each slot", image, BAD);
-    make(image, NORMAL, trr);
-    ask("TRR at each slot", image, GOOD);
-    make(image, NORMAL, no_trs);
-    ask("each slot without TRS", image, BAD);
-    make(image, NORMAL, no_mc);
-    ask("each slot without MC", image, BAD);
+    by.ask("TRR beside each slot", image, 0);
+    make_of(image, by.profile, NORMAL, trr);
+    by.ask("TRR at each slot", image, sends);
+    make_of(image, by.profile, NORMAL, no_trs);
+    by.ask("each slot without TRS", image, 0);
+    make_of(image, by.profile, NORMAL, no_mc);
+    by.ask("each slot without MC", image, 0);
 }
 
 /* ---- the layout of each mailbox */
 
-static inline void ask_word(judge *ask, const char *what, int word, uint32_t value, int good)
+static inline void ask_word(struct asked by, const char *what, int word, uint32_t value, int good)
 {
     uint8_t image[BYTES];
 
-    make_with(image, FRESH, word, value);
-    ask(what, image, good);
+    make_with_of(image, by.profile, FRESH, word, value);
+    by.ask(what, image, good);
 }
 
-static inline void ask_layout(judge *ask, int n)
+static inline void ask_layout(struct asked by, int n)
 {
     for (int bit = 0; bit < 31; bit++) {
-        ask_word(ask, "standard identifier, each bit", MAILBOX(n, 0), 1u << bit, bit >= 18);
-        ask_word(ask, "extended identifier, each bit", MAILBOX(n, 0), 1u << 31 | 1u << bit, GOOD);
+        ask_word(by, "standard identifier, each bit", MAILBOX(n, 0), 1u << bit, bit >= 18);
+        ask_word(by, "extended identifier, each bit", MAILBOX(n, 0), 1u << 31 | 1u << bit, 1);
     }
-    ask_word(ask, "standard, all that it may have", MAILBOX(n, 0), 0x7FFC0000, GOOD);
-    ask_word(ask, "extended, all bits", MAILBOX(n, 0), 0xFFFFFFFF, GOOD);
+    ask_word(by, "standard, all that it may have", MAILBOX(n, 0), 0x7FFC0000, 1);
+    ask_word(by, "extended, all bits", MAILBOX(n, 0), 0xFFFFFFFF, 1);
     for (int bit = 0; bit < 32; bit++)
-        ask_word(ask, "word 1, each bit", MAILBOX(n, 1), 1u << bit, bit <= 4 || bit >= 16);
+        ask_word(by, "word 1, each bit", MAILBOX(n, 1), 1u << bit, bit <= 4 || bit >= 16);
     for (uint32_t dlc = 0; dlc < 16; dlc++)
-        ask_word(ask, "DLC", MAILBOX(n, 1), dlc, GOOD);
-    ask_word(ask, "word 1, all that it may have", MAILBOX(n, 1), 0xFFFF001F, GOOD);
-    ask_word(ask, "data bytes 0 to 3", MAILBOX(n, 2), 0xFFFFFFFF, GOOD);
-    ask_word(ask, "data bytes 4 to 7", MAILBOX(n, 3), 0xFFFFFFFF, GOOD);
+        ask_word(by, "DLC", MAILBOX(n, 1), dlc, 1);
+    ask_word(by, "word 1, all that it may have", MAILBOX(n, 1), 0xFFFF001F, 1);
+    ask_word(by, "data bytes 0 to 3", MAILBOX(n, 2), 0xFFFFFFFF, 1);
+    ask_word(by, "data bytes 4 to 7", MAILBOX(n, 3), 0xFFFFFFFF, 1);
 }
 
-/* Word 1 has all that it may have in every mailbox; in one of them there is one of bits 15 to 5 as well. */
-static inline void ask_full_words_1(judge *ask)
+/* Masks have no bits 30 and 29; the protection has any. */
+static inline void ask_masks(struct asked by, int n)
+{
+    for (int bit = 0; bit < 32; bit++)
+        ask_word(by, "each bit of each mask", MASK(n), 1u << bit, bit != 30 && bit != 29);
+    ask_word(by, "each mask, all that it may have", MASK(n), 0x9FFFFFFF, 1);
+    ask_word(by, "each mask, all and bit 29", MASK(n), 0xBFFFFFFF, 0);
+    ask_word(by, "each mask, all and bit 30", MASK(n), 0xDFFFFFFF, 0);
+    ask_word(by, "each bit of the protection", PROTECTION, 1u << n, 1);
+    ask_word(by, "all bits of the protection but one", PROTECTION, ~(1u << n), 1);
+}
+
+/* One word of every mailbox, so far apart, has all that it may; one of them has one of the stray bits as well. */
+static inline void ask_full_words(struct asked by, const char *what, int first, int apart, uint32_t full,
+                                  uint32_t stray)
 {
     uint8_t image[BYTES];
 
-    put_fresh(image);
+    put_fresh_of(image, by.profile);
     for (int n = 0; n < 32; n++)
-        put(image, MAILBOX(n, 1), 0xFFFF001F);
-    ask("DLC 15 in every mailbox", image, GOOD);
+        put(image, first + apart * n, full);
+    by.ask(what, image, 1);
     for (int n = 0; n < 32; n++) {
-        for (int bit = 5; bit < 16; bit++) {
-            put(image, MAILBOX(n, 1), 0xFFFF001F | 1u << bit);
-            ask("DLC 15 in every mailbox, and one of bits 15 to 5 in one", image, BAD);
+        for (int bit = 0; bit < 32; bit++) {
+            if (!(stray >> bit & 1))
+                continue;
+            put(image, first + apart * n, full | 1u << bit);
+            by.ask(what, image, 0);
         }
-        put(image, MAILBOX(n, 1), 0xFFFF001F);
+        put(image, first + apart * n, full);
     }
 }
 
-/* All of them. */
+/* All of them, of one by.profile. */
+static inline void ask_about_profile(judge *ask, uint32_t profile)
+{
+    const struct asked by = {ask, profile};
+
+    ask_clauses(by);
+    ask_limits(by);
+    for (uint32_t n = 0; n < 32; n++) {
+        ask_each_bit(by, n);
+        ask_each_slot(by, n);
+        ask_layout(by, (int)n);
+        ask_masks(by, (int)n);
+    }
+    ask_full_words(by, "DLC 15 in every mailbox, and one of bits 15 to 5 in one", MAILBOX(0, 1), 4, 0xFFFF001F, 0xFFE0);
+    ask_full_words(by, "every mask full, and bit 30 or 29 in one", MASK(0), 1, 0x9FFFFFFF, MASK_SPARE);
+}
+
 static inline void ask_about_good_images(judge *ask)
 {
-    ask_clauses(ask);
-    ask_limits(ask);
-    for (uint32_t n = 0; n < 32; n++)
-        ask_each_bit(ask, n);
-    for (uint32_t n = 0; n < 31; n++)
-        ask_each_slot(ask, n);
-    for (int n = 0; n < 32; n++)
-        ask_layout(ask, n);
-    ask_full_words_1(ask);
+    ask_about_profile(ask, CAN_B);
+    ask_about_profile(ask, ECAN);
 }
 
 #endif

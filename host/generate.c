@@ -99,6 +99,12 @@ static uint32_t any_identifier(void)
     return EXTENDED(base, one_in(12) ? draw(0x40000) : ONE_OF(lows));
 }
 
+static uint32_t any_profile(void)
+{
+    return one_in(2) ? ECAN : CAN_B;
+}
+
+/* Most of them free much, so that several mailboxes match one frame. */
 static uint32_t any_mask(void)
 {
     static const uint32_t masks[] = {0, BIT_31, 0x1FFFFFFF, 0x9FFFFFFF, 0x0003FFFF, 0x8003FFFF,
@@ -195,15 +201,42 @@ static uint32_t any_timing(void)
     return one_in(4) ? ONE_OF(edges) : 0x25;
 }
 
-static struct event any_register_write(void)
+static int is_ecan(const uint8_t *image)
+{
+    return word_of(image, PROFILE) == ECAN;
+}
+
+/* The mailboxes that can send: bits that several words have there alone. */
+static uint32_t senders(const uint8_t *image)
+{
+    return is_ecan(image) ? ~0u : ~BIT_31;
+}
+
+/* Often up where frames are held, and often everywhere. */
+static uint32_t any_protection(const uint8_t *image)
+{
+    return one_in(2) ? any_flags() | word_of(image, RMP) : any_flags() | any_flags();
+}
+
+/* A mask or the protection: what only an eCAN takes. */
+static struct event any_own_write(const uint8_t *image)
+{
+    if (one_in(2))
+        return write_register(PROTECTION, any_protection(image));
+    return write_register(MASK((int)draw(32)), any_mask());
+}
+
+static struct event any_register_write(const uint8_t *image)
 {
     int word = MC + (int)draw(20), refused = one_in(4);
 
+    if (one_in(is_ecan(image) ? 5 : 40))
+        return any_own_write(image);
     switch (word) {
     case RML: case RFP: return write_register(refused ? word : TRS, any_flags());
     case MC: return write_register(MC, any_flags() | any_flags());
     case LAM: case GAM: return write_register(word, any_mask());
-    case CDR: return write_register(CDR, one_in(2) ? 0 : any_flags() & ~BIT_31);
+    case CDR: return write_register(CDR, one_in(2) ? 0 : any_flags() & senders(image));
     case GIF: case GIM: return write_register(word, draw(256));
     case BCR1: return write_register(BCR1, draw(1024));
     case BCR2: return write_register(BCR2, any_timing());
@@ -232,6 +265,8 @@ static struct event bad_mailbox_write(const uint8_t *image)
 /* Setting up, while no mailbox is enabled: what the rest of a run will meet. */
 static struct event any_setup(const uint8_t *image)
 {
+    if (is_ecan(image) && one_in(3))
+        return any_own_write(image);
     switch (draw(16)) {
     case 0: return write_register(MC, any_flags() | any_flags());
     case 1: case 2: return write_register(MD, any_flags());
@@ -246,7 +281,7 @@ static struct event any_operation(const uint8_t *image)
     uint32_t kind = draw(200);
 
     if (kind < 60) return any_frame();
-    if (kind < 110) return any_register_write();
+    if (kind < 110) return any_register_write(image);
     if (kind < 125) return write_register(TRS, any_flags());
     if (kind < 160) return start();
     if (kind < 163) return outcome((int)draw(4));
@@ -304,8 +339,8 @@ static struct event event_of_any_operation(const uint8_t *image)
     if (word_of(image, SLOT) != EMPTY_SLOT && one_in(3))
         return outcome((int)draw(5));
     switch (draw(16)) {
-    case 0: return write_register(word, edge_value());
-    case 1: return any_register_write();
+    case 0: return write_register(one_in(4) ? MASKS + (int)draw(33) : word, edge_value());
+    case 1: return any_register_write(image);
     case 2: return one_in(8) ? bad_mailbox_write(image) : any_mailbox_write(image, (int)draw(4));
     case 3: case 4: case 5: return one_in(16) ? bad_frame() : any_frame();
     case 6: case 7: return start();
@@ -324,13 +359,14 @@ static size_t damage(uint8_t *event)
 {
     uint32_t at = draw(EVENT_BYTES), bit = draw(32);
 
-    switch (draw(8)) {
+    switch (draw(9)) {
     case 0: event[at] ^= (uint8_t)(1u << bit % 8); break;
     case 1: event[at] = (uint8_t)draw(256); break;
     case 2: event[1 + at % 3] = (uint8_t)draw(36); break;
     case 3: event[0] = (uint8_t)draw(14); break;
     case 4: case 5: put(event, 1, edge_value()); break;
     case 6: put(event, 1, word_of(event, 1) ^ 1u << bit); break;
+    case 7: event[1] = (uint8_t)(FROSTSORREL_MASK_0 - 2 + draw(37)); break; /* on both sides of 64 and 96 */
     default:
         draw_bytes(event + EVENT_BYTES, LONGEST_EVENT - EVENT_BYTES);
         return draw(LONGEST_EVENT + 1);
@@ -364,11 +400,16 @@ static int likely_mailbox(const uint8_t *image)
     return (int)n;
 }
 
+static uint32_t mask_of(const uint8_t *image, int n)
+{
+    return word_of(image, is_ecan(image) ? MASK(n) : n == 31 ? LAM : GAM);
+}
+
 /* Identifier and IDE as one of the mailboxes has them, with some bits turned round. */
 static uint32_t near_identifier(const uint8_t *image)
 {
     int n = likely_mailbox(image);
-    uint32_t own = word_of(image, MAILBOX(n, 0)), freed = word_of(image, n == 31 ? LAM : GAM);
+    uint32_t own = word_of(image, MAILBOX(n, 0)), freed = mask_of(image, n);
     uint32_t bits = 0;
 
     switch (draw(6)) {
@@ -400,18 +441,18 @@ size_t frame_near_a_mailbox(uint8_t *event, const uint8_t *image)
 
 static void put_flags(uint8_t *image)
 {
-    uint32_t md = any_flags() | BIT_31, rmp = any_flags();
+    uint32_t sending = senders(image), md = any_flags() | ~sending, rmp = any_flags();
 
     put(image, MC, any_flags());
     put(image, MD, md);
     put(image, TRS, (one_in(2) ? few_flags() : any_flags()) & ~md);
-    put(image, TA, any_flags() & ~BIT_31);
-    put(image, AA, any_flags() & ~BIT_31);
+    put(image, TA, any_flags() & sending);
+    put(image, AA, any_flags() & sending);
     put(image, RMP, rmp);
     put(image, RML, rmp & any_flags());
     put(image, RFP, rmp & any_flags());
-    put(image, CDR, any_flags() & any_flags() & ~BIT_31);
-    put(image, MBTIF, any_flags() & ~BIT_31);
+    put(image, CDR, any_flags() & any_flags() & sending);
+    put(image, MBTIF, any_flags() & sending);
     put(image, MBRIF, any_flags());
     put(image, MBIM, any_flags());
 }
@@ -434,9 +475,17 @@ static void put_numbers(uint8_t *image)
     put(image, TSO, draw(2));
 }
 
-static void put_in_slot(uint8_t *image, uint32_t n)
+/* In a CAN-B too, where nobody asks for them. */
+static void put_masks(uint8_t *image)
 {
-    uint32_t bit = 1u << n;
+    for (int n = 0; n < FROSTSORREL_MAILBOXES; n++)
+        put(image, MASK(n), any_mask());
+    put(image, PROTECTION, any_protection(image));
+}
+
+static void put_in_slot(uint8_t *image)
+{
+    uint32_t n = is_ecan(image) && one_in(4) ? 31 : draw(31), bit = 1u << n;
 
     put(image, SLOT, n);
     put(image, MC, word_of(image, MC) | bit);
@@ -471,20 +520,26 @@ static void put_bus_off(uint8_t *image)
 
 void good_image(uint8_t *image)
 {
-    put_fresh(image);
+    good_image_of(image, any_profile());
+}
+
+void good_image_of(uint8_t *image, uint32_t profile)
+{
+    put_fresh_of(image, profile);
     for (int word = 0; word < MC; word++)
         put(image, word, any_mailbox_word(word % 4));
     put_flags(image);
     put_numbers(image);
+    put_masks(image);
     put(image, MODE, NORMAL_MODE);
     switch (draw(10)) {
     case 0: put(image, MODE, CONFIGURATION); return;
     case 1: put(image, MODE, SUSPEND); return;
     case 2: put_asleep(image); return;
     case 3: put_bus_off(image); break;
-    case 4: case 5: put_in_slot(image, draw(31)); break;
+    case 4: case 5: put_in_slot(image); break;
     case 6: case 7:
-        put_in_slot(image, draw(31));
+        put_in_slot(image);
         put_near_passive(image);
         break;
     default: return;
@@ -501,21 +556,24 @@ void spoil(uint8_t *image)
 {
     static const int below_31[] = {MD, TRS, TRR, TA, AA, CDR, MBTIF};
     static const int paired[] = {TRS, TRR, RML, RFP, RMP, MC, MD};
-    static const int masks[] = {LAM, GAM};
     uint32_t bit = 1u << draw(32);
     int n = (int)draw(32), k = (int)draw(2), word;
 
-    switch (draw(8)) {
+    switch (draw(12)) {
     case 0: flip(image, ONE_OF(below_31), BIT_31); break;
     case 1: flip(image, ONE_OF(paired), bit); break;
-    case 2: flip(image, masks[k], n % 2 ? 1u << 29 : 1u << 30); break;
+    case 2: flip(image, k ? LAM : GAM, n % 2 ? 1u << 29 : 1u << 30); break;
     case 3:
-        word = GIF + (int)draw(WORDS - GIF);
+        word = GIF + (int)draw(MASKS - GIF);
         put(image, word, edge_value());
         break;
     case 4: put(image, MODE + n % 4, draw(6)); break; /* mode, waiting mode, slot, recovery count */
     case 5: put(image, TEC, BUS_OFF_TEC - draw(2)); break;
     case 6: flip(image, MAILBOX(n, k), bit); break;
+    case 7: flip(image, MASK(n), k ? 1u << 29 : 1u << 30); break;
+    case 8: put(image, PROFILE, k ? PROFILES : edge_value()); break;
+    case 9: flip(image, PROFILE, ECAN); break; /* what it has is the other one's, and may be good there */
+    case 10: put(image, SLOT, EMPTY_SLOT - 1 + draw(3)); break;
     default: flip(image, (int)draw(WORDS), bit);
     }
 }

@@ -34,8 +34,9 @@ size_t varied_event(uint8_t *event, const uint8_t *image);
  */
 size_t frame_near_a_mailbox(uint8_t *event, const uint8_t *image);
 
-/* A good image, built word by word. */
+/* A good image, built word by word: of either profile, or of this one. Protection is often up, and masks overlap. */
 void good_image(uint8_t *image);
+void good_image_of(uint8_t *image, uint32_t profile);
 
 /* Breaks one clause of the rule for good images, most of the time. */
 void spoil(uint8_t *image);

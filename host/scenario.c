@@ -73,12 +73,12 @@ void feed(struct place at, struct event e, unsigned refusal, unsigned mailbox, u
           (unsigned)frostsorrel_answer_count(answer), refusal, mailbox, count);
 }
 
-void read_as(struct place at, uint32_t number, uint32_t value)
+void read_as(struct place at, uint32_t number, uint64_t expected_answer)
 {
     uint64_t answer = frostsorrel_read(image, BYTES, number);
 
-    check(answer == value, "%s:%d, %s: register %lu reads 0x%llX, not 0x%lX", at.file, at.line, scenario,
-          (unsigned long)number, (unsigned long long)answer, (unsigned long)value);
+    check(answer == expected_answer, "%s:%d, %s: register %lu reads 0x%llX, not 0x%llX", at.file, at.line, scenario,
+          (unsigned long)number, (unsigned long long)answer, (unsigned long long)expected_answer);
 }
 
 void enabled(int n, uint32_t word_0)

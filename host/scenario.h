@@ -11,6 +11,7 @@
  *     refuse(event, refusal)            refused
  *     now({word, value}, ..)            what the event before has changed
  *     reads(number, value)              reading this register gives that
+ *     cannot_read(number)               reading it gets refusal 2
  *     end()                             after the last scenario
  */
 #ifndef SCENARIO_H
@@ -45,6 +46,7 @@ void end(void);
 #define accept(event) answers(event, NOBODY, 0)
 #define refuse(event, refusal) feed(HERE, event, refusal, NOBODY, 0)
 #define reads(number, value) read_as(HERE, number, value)
+#define cannot_read(number) read_as(HERE, number, (uint64_t)FROSTSORREL_UNKNOWN << 32)
 #define HERE (struct place){__FILE__, __LINE__}
 
 struct place {
@@ -55,7 +57,7 @@ struct place {
 void put_given(const struct content *contents, size_t count);
 void put_expected(const struct content *contents, size_t count);
 void feed(struct place at, struct event e, unsigned refusal, unsigned mailbox, unsigned count);
-void read_as(struct place at, uint32_t number, uint32_t value);
+void read_as(struct place at, uint32_t number, uint64_t expected_answer);
 
 /* Given: this mailbox is enabled, with this word 0; or enabled and receives. */
 void enabled(int n, uint32_t word_0);

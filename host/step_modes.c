@@ -298,7 +298,7 @@ static void resets(void)
         filled_mailboxes();
         for (int word = TA; word <= TSC; word++)
             given({word, 1});
-        given({MD, 0xF0000000}, {OPTIONS, 3}, {TSO, 1});
+        given({MD, 0xF0000000}, {OPTIONS, 3}, {TSO, 1}, {MASK(0), 1}, {MASK(31), 0x9FFFFFFF}, {PROTECTION, ~0u});
         if (before[i] == SENDING)
             given({WAITING, SLEEP}, {TRR, BIT(3)}, {TEC, 128}, {REC, 97});
         if (before[i] == BUS_OFF)

@@ -155,6 +155,25 @@ static void ide_freed(int n, int mask)
     answers(data_frame(STANDARD(1), 0, 0), NOBODY, 1);
 }
 
+/* A CAN-B has neither masks of its mailboxes nor a protection, whatever stands in those words. */
+static void masks_of_the_other_maker(void)
+{
+    begin("masks and protection in a CAN-B", NORMAL);
+    for (int n = 0; n < 32; n++)
+        given({MASK(n), 0x9FFFFFFF});
+    given({PROTECTION, 0xFFFFFFFF});
+    receiving(3, STANDARD(0x123) | MASKED);
+    receiving(5, STANDARD(0x123));
+    receiving(31, STANDARD(0x123) | MASKED);
+    answers(data_frame(STANDARD(0x122), 0, 0), NOBODY, 3);
+    answers(data_frame(STANDARD(0x123), 0, 0), 3, 1);
+    now_stored(3, STANDARD(0x123) | MASKED);
+    answers(data_frame(STANDARD(0x123), 1, 0x55), 3, 1);
+    now({MAILBOX(3, 1), 1}, {MAILBOX(3, 2), 0x55}, {RML, BIT(3)}, {GIF, 0x20});
+    answers(remote_frame(STANDARD(0x123), 0), 3, 1);
+    now({MAILBOX(3, 1), CONTROL(0, 1, 0)}, {RFP, BIT(3)}, {GIF, 0xA0});
+}
+
 /* ---- remote frames (manual 3.3.4, 4.2.25, 5.3) */
 
 static void remote_frames_meet_everybody(void)
@@ -513,6 +532,7 @@ void step_receiving(void)
     each_identifier_bit();
     ide_freed(13, GAM);
     ide_freed(31, LAM);
+    masks_of_the_other_maker();
     remote_frames_meet_everybody();
     for (int n = 0; n < 32; n++)
         remote_frame_at_each_mailbox(n);

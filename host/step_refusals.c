@@ -71,7 +71,8 @@ static void refusal_2(void)
     for (int operation = 11; operation <= 255; operation++)
         refuse(plain_event(operation, 0, 0, 0), 2);
     for (int number = 20; number <= 255; number++)
-        refuse(write_register(MC + number, 0), 2);
+        if (number < FROSTSORREL_MASK_0 || number > FROSTSORREL_PROTECTION)
+            refuse(plain_event(FROSTSORREL_WRITE_REGISTER, number, 0, 0), 2);
     refuse(write_register(RML, 0), 2);
     refuse(write_register(RFP, 0), 2);
     for (int n = 32; n <= 255; n++)
@@ -115,6 +116,8 @@ static void refusal_3(void)
     given({MC, BIT(0) | BIT(5) | BIT(31)}, {MD, BIT(5) | BIT(31)});
     for (int r = MC; r <= TSC; r++)
         refuse(write_register(r, 0), r == RML || r == RFP ? 2 : 3);
+    for (int r = MASKS; r <= PROTECTION; r++)
+        refuse(write_register(r, 0), 3);
     for (int k = 0; k < 4; k++)
         for (int n = 0; n < 32; n++)
             refuse(write_mailbox(n, k, 0), 3);
@@ -127,6 +130,7 @@ static void refusal_3(void)
     refuse(options(4), 3);
     refuse(with_byte(options(0), 1, 1), 3);
     /* 6 applies as well */
+    refuse(write_register(MASK(3), MASK_SPARE), 3);
     refuse(write_register(BCR2, 0x25), 3);
     refuse(write_register(MD, BIT(0) | BIT(31)), 3);
     refuse(write_mailbox(5, 0, 0), 3);
@@ -161,6 +165,9 @@ static void refusal_4_wins(void)
     refuse(write_register(BCR1, 1024), 4);
     refuse(with_byte(write_register(BCR2, 0x25), 2, 1), 4);
     refuse(with_byte(write_register(MD, BIT(31)), 15, 1), 4);
+    refuse(write_register(MASK(6), BIT(29)), 4);
+    refuse(write_register(MASK(31), BIT(30)), 4);
+    refuse(with_byte(write_register(PROTECTION, 0), 2, 1), 4);
     refuse(write_mailbox(6, 0, 1), 4);
     refuse(with_byte(write_mailbox(6, 2, 0), 3, 1), 4);
     begin("4 and 6, mode", FRESH);
@@ -460,7 +467,7 @@ static void busy_requests(void)
         refuse(write_mailbox(30, k, written[k]), 5);
         accept(write_mailbox(1, k, written[k]));
         now({MAILBOX(1, k), written[k]});
-        accept(write_mailbox(31, k, written[k])); /* the slot holds 31: that is nobody (D4) */
+        accept(write_mailbox(31, k, written[k])); /* the slot holds 32: that is nobody (D4) */
         now({MAILBOX(31, k), written[k]});
     }
     accept(write_register(CDR, BIT(30))); /* holds that request back: its mailbox is free */
@@ -505,6 +512,21 @@ static void busy_enabling_and_direction(void)
 }
 
 /* ---- refusal 6: locked */
+
+/* A CAN-B has neither masks nor a protection: the same value is refused as well. */
+static void locked_words_of_the_ecan(void)
+{
+    static const enum state awake[] = {FRESH, NORMAL, SENDING, BUS_OFF};
+
+    for (size_t i = 0; i < COUNT(awake); i++) {
+        begin("locked: masks and protection of a CAN-B", awake[i]);
+        for (int word = MASKS; word <= PROTECTION; word++) {
+            refuse(write_register(word, 0), 6);
+            refuse(write_register(word, 0x9FFFFFFF), 6);
+        }
+        refuse(write_register(PROTECTION, 0xFFFFFFFF), 6);
+    }
+}
 
 static void locked_direction(void)
 {
@@ -664,6 +686,7 @@ void step_refusals(void)
     busy_slot();
     busy_requests();
     busy_enabling_and_direction();
+    locked_words_of_the_ecan();
     locked_direction();
     locked_timing();
     locked_words();

@@ -1,9 +1,9 @@
 /*
- * Feeds events to frostsorrel_step and compares answers and images with what document 01 and the
- * manual say, worked out by hand; then random runs, compared with the reference. The scenarios stand
+ * Feeds events to frostsorrel_step and compares answers and images with what documents 01 and 02 and the
+ * makers' papers say, worked out by hand; then random runs, compared with the reference. The scenarios stand
  * here and in the files step_*.c.
  *
- * In all of them "manual" is source document 000, and D1 and the like are docs/DECISIONS.md.
+ * In all of them "manual" is source document 000, "guide" is 002, and D1 and the like are docs/DECISIONS.md.
  */
 #include "generate.h"
 #include "reference.h"
@@ -106,14 +106,14 @@ static void receive_flow(void)
 
 /* ---- a random run, compared with the reference after every event */
 
-static void random_run(uint64_t seed, int steps)
+static void random_run(uint32_t profile, uint64_t seed, int steps)
 {
     uint8_t ours[BYTES], theirs[BYTES];
     uint8_t event[LONGEST_EVENT];
 
     seed_generator(seed);
-    frostsorrel_fresh(ours, BYTES);
-    reference_fresh(theirs, BYTES);
+    frostsorrel_fresh(ours, BYTES, profile);
+    reference_fresh(theirs, BYTES, profile);
     for (int i = 0; i < steps; i++) {
         size_t len = likely_event(event, theirs);
         uint64_t ours_says = frostsorrel_step(ours, BYTES, event, len);
@@ -138,8 +138,11 @@ int main(int argc, char **argv)
     step_modes();
     transmit_flow();
     receive_flow();
+    step_ecan();
     end();
-    for (uint64_t seed = 1; seed <= 4; seed++)
-        random_run(seed, 2000);
+    for (uint64_t seed = 1; seed <= 4; seed++) {
+        random_run(CAN_B, seed, 2000);
+        random_run(ECAN, seed, 2000);
+    }
     return report(argc > 1 ? argv[1] : "host step");
 }
