@@ -1,4 +1,4 @@
-/* Calls frostsorrel_compare as a C host does, and holds it to request a) of document 02. */
+/* Calls frostsorrel_compare as a C host does, and holds it to requests a) and g) of document 02. */
 #include "check.h"
 #include "clauses.h"
 #include "frostsorrel.h"
@@ -67,8 +67,20 @@ static const struct by_hand {
 } lists[] = {
     {"the first word", {SET(MAILBOX(0, 0), 0)}, {SET(MAILBOX(0, 0), 0x91234567)},
      {{0, 0, 0, 0, 0, 0, 0, 0, 0x67, 0x45, 0x23, 0x91}, 12}},
-    {"the last word", {SET(TSO, 1)}, {SET(TSO, 0)},
+    {"the last word that a register has", {SET(TSO, 1)}, {SET(TSO, 0)},
      {{155, 0, 0, 0, 1, 0, 0, 0, 0, 0, 0, 0}, 12}},
+    {"the first mask", {SET(MASK(0), 0x9FFFFFFF)}, {SET(MASK(0), 0x80000001)},
+     {{160, 0, 0, 0, 0xFF, 0xFF, 0xFF, 0x9F, 1, 0, 0, 0x80}, 12}},
+    {"the last mask", {{0, 0, 0}}, {SET(MASK(31), 0x00000200)},
+     {{191, 0, 0, 0, 0, 0, 0, 0, 0, 2, 0, 0}, 12}},
+    {"the protection", {SET(PROTECTION, 0xF0000030)}, {SET(PROTECTION, 0x00000030)},
+     {{192, 0, 0, 0, 0x30, 0, 0, 0xF0, 0x30, 0, 0, 0}, 12}},
+    {"the profile, which is the last word", {{0, 0, 0}}, {SET(PROFILE, ECAN)},
+     {{193, 0, 0, 0, 0, 0, 0, 0, 1, 0, 0, 0}, 12}},
+    {"protection and profile, back", {SET(PROTECTION, 7), SET(PROFILE, ECAN)}, {{0, 0, 0}},
+     {{192, 0, 0, 0, 7, 0, 0, 0, 0, 0, 0, 0, 193, 0, 0, 0, 1, 0, 0, 0, 0, 0, 0, 0}, 24}},
+    {"a fresh eCAN's MD too", {{0, 0, 0}}, {SET(PROFILE, ECAN), SET(MD, 0)},
+     {{129, 0, 0, 0, 0, 0, 0, 0x80, 0, 0, 0, 0, 193, 0, 0, 0, 0, 0, 0, 0, 1, 0, 0, 0}, 24}},
     {"the last word of the mailboxes", {SET(MAILBOX(31, 3), 1)}, {SET(MAILBOX(31, 3), 0xFF000001)},
      {{127, 0, 0, 0, 1, 0, 0, 0, 1, 0, 0, 0xFF}, 12}},
     {"the first of the registers", {SET(MC, 0x04030201)}, {SET(MC, 0x84030201)},
@@ -165,18 +177,18 @@ static void test_equal(void)
 
 static int is_good(const uint8_t *image)
 {
-    return frostsorrel_read_refusal(frostsorrel_read(image, BYTES, FROSTSORREL_GSR)) == 0;
+    return frostsorrel_read_refusal(frostsorrel_read(image, BYTES, FROSTSORREL_MC)) == 0;
 }
 
 /* Each word may change alone in one of these: with the flags, also those that others have to allow. */
-static void put_base(uint8_t *image, int base)
+static void put_base(uint8_t *image, uint32_t profile, int base)
 {
     static const enum state bases[] = {FRESH, SENDING, BUS_OFF};
     static const struct edit flags[EDITS] = {SET(MC, 0xFFFFFFFF), SET(TRS, 0x7FFFFFFF), SET(RMP, 0xFFFFFFFF),
                                              SET(WAITING, 2)};
     static const struct edit none[EDITS];
 
-    make(image, bases[base], bases[base] == SENDING ? flags : none);
+    make_of(image, profile, bases[base], bases[base] == SENDING ? flags : none);
 }
 
 /* Every bit of a word that may differ alone from this image; answers how many. */
@@ -196,30 +208,31 @@ static int expect_word(const uint8_t *image, int word)
     return tried;
 }
 
-/* Each of words 0 to 155 can differ alone; the four behind TSO are 0 in every good image. */
-static void test_each_word(void)
+/* Each word can differ alone, but for the four behind TSO, which are 0 in every good image. */
+static void test_each_word(uint32_t profile)
 {
     uint8_t image[BYTES];
 
     for (int word = 0; word < WORDS; word++) {
-        int tried = 0;
+        int tried = 0, is_spare = word >= SPARE && word < MASKS, turns_bad = word == PROFILE && profile == ECAN;
 
         for (int base = 0; base < 3; base++) {
-            put_base(image, base);
+            put_base(image, profile, base);
             tried += expect_word(image, word);
         }
-        check((tried > 0) == (word < SPARE), "%s alone: %d pairs", word_name(word), tried);
+        check((tried > 0) == !(is_spare || turns_bad), "%s alone: %d pairs", word_name(word), tried); /* MD bit 31 is 0 */
     }
 }
 
 /* ---- as many words differ as can */
 
 /*
- * Three good images: with a mailbox in the slot, in configuration, in bus off. At most 155 words can differ:
- * the four behind TSO are 0; and where TRR and the recovery count differ, one image has a mailbox in the
- * slot and the other is in bus off, so that both are in normal mode.
+ * Three good images: of a CAN-B with a mailbox in the slot, and of eCANs in configuration and in bus off. At most
+ * 189 words can differ: the four behind TSO are 0; and where TRR and the recovery count differ, one image has a
+ * mailbox in the slot and the other is in bus off, so that both are in normal mode.
  */
 enum { SLOT_FILLED, CONFIGURED, OFF };
+#define MOST_WORDS (WORDS - 4 - 1)
 
 static const uint32_t registers[][3] = {
     {0xF1234667, 0x0EDCB998, 0x00000000}, /* MC, with mailbox 9 where that is in the slot */
@@ -246,7 +259,7 @@ static const uint32_t registers[][3] = {
     {99, 0, 255},                         /* REC */
     {0, 1, 0},                            /* mode */
     {2, 4, 3},                            /* waiting mode: sleep, none, suspend */
-    {9, 31, 31},                          /* slot */
+    {9, 32, 32},                          /* slot */
     {0, 0, 127},                          /* recovery count */
     {3, 0, 1},                            /* options */
     {1, 0, 0},                            /* TSO */
@@ -265,6 +278,18 @@ static void put_image(uint8_t *image, int which)
     }
     for (size_t i = 0; i < COUNT(registers); i++)
         put(image, MC + (int)i, registers[i][which]);
+    for (int n = 0; n < 32; n++)
+        put(image, MASK(n), 0x80000000 | k << 8 | (uint32_t)n);
+    put(image, PROTECTION, 0xFFFFFFFF - k);
+    put(image, PROFILE, which == SLOT_FILLED ? CAN_B : ECAN);
+}
+
+/* Which word stands in this entry, where all but those behind TSO and this one differ. */
+static uint32_t word_of_entry(int entry, int equal)
+{
+    int word = entry < equal ? entry : entry + 1;
+
+    return (uint32_t)(word < SPARE ? word : word + 4);
 }
 
 /* All words of two of these but those behind TSO and this one. */
@@ -276,14 +301,14 @@ static void expect_all_but(const char *what, int one, int other, int equal)
     put_image(first, one);
     put_image(second, other);
     list = list_of(first, second);
-    check(list.len == 155 * ENTRY, "%s: the list has %lu bytes", what, (unsigned long)list.len);
-    for (int i = 0; i < 155; i++)
-        check(word_of(list.bytes, 3 * i) == (uint32_t)(i < equal ? i : i + 1), "%s: entry %d", what, i);
+    check(list.len == MOST_WORDS * ENTRY, "%s: the list has %lu bytes", what, (unsigned long)list.len);
+    for (int i = 0; i < MOST_WORDS; i++)
+        check(word_of(list.bytes, 3 * i) == word_of_entry(i, equal), "%s: entry %d", what, i);
     for (size_t len = 0; len <= LONGEST_LIST; len++) {
         if (len < list.len)
             expect_refusal(what, of_images(first, second, len), 9);
         else
-            expect(what, of_images(first, second, len), ACCEPTED(155), &list);
+            expect(what, of_images(first, second, len), ACCEPTED(MOST_WORDS), &list);
     }
 }
 
@@ -314,7 +339,7 @@ static void test_bad_images(void)
     put_image(good, SLOT_FILLED);
     put_image(other, CONFIGURED);
     put_image(bad, CONFIGURED);
-    put(bad, SPARE + 3, 1);
+    put(bad, PROFILE, PROFILES);
     expect_refusal("two good images, no room", of_images(good, other, 0), 9);
     expect_bad("the first image is bad", bad, BYTES, good, BYTES);
     expect_bad("the second image is bad", good, BYTES, bad, BYTES);
@@ -363,7 +388,8 @@ int main(void)
     test_entry_functions();
     test_lost_frame();
     test_equal();
-    test_each_word();
+    test_each_word(CAN_B);
+    test_each_word(ECAN);
     test_most_words();
     test_bad_images();
     test_lengths();

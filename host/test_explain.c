@@ -1,4 +1,4 @@
-/* Calls frostsorrel_explain as a C host does, and holds it to request d) of document 02. */
+/* Calls frostsorrel_explain as a C host does, and holds it to requests d) and g) of document 02. */
 #include "check.h"
 #include "clauses.h"
 #include "events.h"
@@ -22,7 +22,7 @@
 #define BIT_31 0x80000000u
 
 /* The reasons, by the numbers of document 02. */
-enum { DISABLED = 1, TRANSMITS, IDE_DIFFERS, BIT_DIFFERS, MATCHED, NOT_HEARD };
+enum { DISABLED = 1, TRANSMITS, IDE_DIFFERS, BIT_DIFFERS, MATCHED, NOT_HEARD, PROTECTED };
 
 /* ---- calls that are checked */
 
@@ -597,6 +597,193 @@ static void test_each_dlc(void)
     }
 }
 
+/* ---- the eCAN: downwards, each mailbox under its own mask, and past those that are protected */
+
+/* Mailbox n alone is enabled, and receives with this word 0. */
+static void put_one_of_ecan(uint8_t *image, int n, uint32_t word_0)
+{
+    make_with_of(image, ECAN, NORMAL, MC, 1u << n);
+    put(image, MD, ALL);
+    put(image, MAILBOX(n, 0), word_0);
+}
+
+/* Lines of disabled mailboxes from the one whose line is next, down to this one. */
+static void add_disabled_down(struct list *list, int to)
+{
+    for (int n = 31 - (int)list->len / 8; n >= to; n--)
+        add_line(list, n, DISABLED, 0);
+}
+
+/* The same as only_line, downwards: a mailbox that is protected does not end the lines either. */
+static struct list only_line_down(int mailbox, int reason)
+{
+    struct list list = nothing;
+
+    add_disabled_down(&list, mailbox + 1);
+    add_line(&list, mailbox, reason, reason == BIT_DIFFERS ? 18 : 0);
+    if (reason != MATCHED)
+        add_disabled_down(&list, 0);
+    return list;
+}
+
+static void expect_at_of_ecan(const char *what, const uint8_t *image, uint32_t frame, int n, int reason)
+{
+    struct list list = only_line_down(n, reason);
+
+    expect_lines(what, image, frame_of(frame), &list);
+}
+
+/* With every flag that could protect it, and with each of these gone. Protected is the last reason before matched. */
+static void test_each_protected(int n)
+{
+    uint8_t image[BYTES];
+    uint32_t bit = 1u << n;
+
+    put_one_of_ecan(image, n, STANDARD_123);
+    put(image, RMP, ALL);
+    put(image, PROTECTION, ALL);
+    expect_at_of_ecan("protected", image, STANDARD_123, n, PROTECTED);
+    expect_at_of_ecan("protected, a remote frame", image, STANDARD_123 | REMOTE, n, PROTECTED);
+    expect_at_of_ecan("IDE before protected", image, EXTENDED_123, n, IDE_DIFFERS);
+    expect_at_of_ecan("a bit before protected", image, STANDARD_122, n, BIT_DIFFERS);
+    put(image, RMP, ~bit);
+    expect_at_of_ecan("nothing is held", image, STANDARD_123, n, MATCHED);
+    put(image, RMP, bit);
+    put(image, PROTECTION, ~bit);
+    expect_at_of_ecan("held, and not protected", image, STANDARD_123, n, MATCHED);
+    put(image, PROTECTION, bit);
+    expect_at_of_ecan("its own bits alone", image, STANDARD_123, n, PROTECTED);
+    put(image, MD, ~bit);
+    expect_at_of_ecan("transmits before protected", image, STANDARD_123, n, TRANSMITS);
+    expect_at_of_ecan("what transmits is not protected", image, STANDARD_123 | REMOTE, n, MATCHED);
+    put(image, MD, ALL);
+    put(image, MC, 0);
+    expect_at_of_ecan("disabled before protected", image, STANDARD_123, n, DISABLED);
+}
+
+/* In a CAN-B neither protection nor masks are looked at. */
+static void test_each_unprotected(int n)
+{
+    uint8_t image[BYTES];
+
+    put_one(image, n, STANDARD_123 | MASKED);
+    put(image, RMP, ALL);
+    put(image, PROTECTION, ALL);
+    put(image, MASK(n), EVERY_MASK);
+    expect_at("a CAN-B has no protection", image, STANDARD_123, n, MATCHED, 0);
+    expect_at("a CAN-B has no masks", image, STANDARD_122, n, BIT_DIFFERS, 18);
+}
+
+/* Only the mailbox's own mask counts: not LAM, not GAM, not the other masks. */
+static void test_each_own_mask(int n)
+{
+    uint8_t image[BYTES];
+
+    put_one_of_ecan(image, n, STANDARD_122 | MASKED);
+    put(image, LAM, EVERY_MASK);
+    put(image, GAM, EVERY_MASK);
+    for (int other = 0; other < 32; other++)
+        put(image, MASK(other), other == n ? 0 : EVERY_MASK);
+    expect_at_of_ecan("the masks of others", image, STANDARD_123, n, BIT_DIFFERS);
+    put(image, MASK(n), 1u << 18);
+    expect_at_of_ecan("its own mask", image, STANDARD_123, n, MATCHED);
+    expect_at_of_ecan("its own mask does not free IDE", image, EXTENDED_123, n, IDE_DIFFERS);
+    put(image, RMP, 1u << n);
+    put(image, PROTECTION, 1u << n);
+    expect_at_of_ecan("protected under its mask", image, STANDARD_123, n, PROTECTED);
+    put(image, MAILBOX(n, 0), STANDARD_122);
+    expect_at_of_ecan("its own mask, not used", image, STANDARD_123, n, BIT_DIFFERS);
+}
+
+/* By n % 5: disabled, transmits, IDE differs, a bit differs, protected. */
+static void put_all_kinds_of_ecan(uint8_t *image)
+{
+    static const uint32_t words[] = {STANDARD_123, STANDARD_123, EXTENDED_123, STANDARD_122, STANDARD_123};
+
+    make_with_of(image, ECAN, NORMAL, RMP, ALL);
+    put(image, PROTECTION, ALL);
+    for (int n = 0; n < 32; n++) {
+        put(image, MAILBOX(n, 0), words[n % 5]);
+        put(image, MC, word_of(image, MC) | (uint32_t)(n % 5 != 0) << n);
+        put(image, MD, word_of(image, MD) | (uint32_t)(n % 5 != 1) << n);
+    }
+}
+
+static struct list all_kinds_of_ecan(void)
+{
+    static const int reasons[] = {DISABLED, TRANSMITS, IDE_DIFFERS, BIT_DIFFERS, PROTECTED};
+    struct list list = nothing;
+
+    for (int n = 31; n >= 0; n--)
+        add_line(&list, n, reasons[n % 5], n % 5 == 3 ? 18 : 0);
+    return list;
+}
+
+/* The frame goes past all, or ends at one that is not protected: 19 is the thirteenth, 4 the twenty-eighth. */
+static void test_all_lines_of_ecan(void)
+{
+    static const int open[] = {19, 4};
+    uint8_t image[BYTES];
+    struct list list = all_kinds_of_ecan();
+
+    put_all_kinds_of_ecan(image);
+    expect_each_room("an eCAN, none of 32", image, frame_of(STANDARD_123), &list);
+    for (size_t i = 0; i < COUNT(open); i++) {
+        put(image, PROTECTION, ~(1u << open[i]));
+        list = all_kinds_of_ecan();
+        list.len = 8 * (size_t)(32 - open[i]);
+        list.bytes[list.len - 7] = MATCHED;
+        expect_each_room("an eCAN, ends at one", image, frame_of(STANDARD_123), &list);
+    }
+}
+
+/* Mailboxes 5, 4 and 3 as in the guide's 3.2.5, before each of its frames. */
+static void test_overload(void)
+{
+    uint8_t image[BYTES];
+    struct list list = nothing;
+
+    make_with_of(image, ECAN, NORMAL, MC, 0x38);
+    put(image, MD, 0x38);
+    put(image, PROTECTION, 0x30);
+    for (int n = 3; n <= 5; n++)
+        put(image, MAILBOX(n, 0), STANDARD_123);
+    add_disabled_down(&list, 6);
+    for (int n = 5; n >= 3; n--) {
+        add_line(&list, n, MATCHED, 0);
+        expect_lines("the guide's overload", image, frame_of(STANDARD_123), &list);
+        list.bytes[list.len - 7] = PROTECTED;
+        put(image, RMP, word_of(image, RMP) | 1u << n);
+    }
+    list.bytes[list.len - 7] = MATCHED; /* 3 is not protected: it is overwritten */
+    expect_lines("the guide's overload, all held", image, frame_of(STANDARD_123), &list);
+    put(image, PROTECTION, 0x38);
+    list.bytes[list.len - 7] = PROTECTED;
+    add_disabled_down(&list, 0);
+    expect_lines("the guide's overload, all protected", image, frame_of(STANDARD_123 | REMOTE), &list);
+}
+
+/* Not heard: one line, as in a CAN-B; a filled slot, mailbox 31 in it, is not looked at. */
+static void test_states_of_ecan(void)
+{
+    uint8_t image[BYTES];
+
+    put_all_kinds_of_ecan(image);
+    put(image, MODE, SUSPEND);
+    expect_silence("an eCAN in suspend", image, SUSPEND);
+    put(image, MODE, SLEEP);
+    expect_silence("an eCAN asleep", image, SLEEP);
+    put(image, MODE, NORMAL_MODE);
+    put(image, TEC, BUS_OFF_TEC);
+    expect_silence("an eCAN in bus off", image, FROSTSORREL_IN_BUS_OFF);
+    make_with_of(image, ECAN, NORMAL, MAILBOX(31, 0), STANDARD_123);
+    put(image, MC, BIT_31);
+    put(image, TRS, BIT_31);
+    put(image, SLOT, 31);
+    expect_at_of_ecan("data frame, mailbox 31 is sent", image, STANDARD_123, 31, TRANSMITS);
+    expect_at_of_ecan("remote frame, mailbox 31 is sent", image, STANDARD_123 | REMOTE, 31, MATCHED);
+}
+
 /* ---- refusals 4, 2 and 1: of several the lowest, whatever the mode and the room */
 
 /* An image that hears the frame, one that sends, one that does not hear it. */
@@ -726,6 +913,9 @@ int main(void)
         test_each_mailbox(n);
         test_each_disabled(n);
         test_each_mask(n);
+        test_each_protected(n);
+        test_each_unprotected(n);
+        test_each_own_mask(n);
     }
     test_two_masks();
     test_bits(EXTENDED(0x2AA, 0x15555), 0);
@@ -736,6 +926,9 @@ int main(void)
     test_heard();
     test_filled_slot();
     test_each_dlc();
+    test_all_lines_of_ecan();
+    test_overload();
+    test_states_of_ecan();
     test_bad_frames();
     test_other_events();
     test_lengths();

@@ -1,4 +1,4 @@
-/* Calls frostsorrel_fresh and frostsorrel_read as a C host does, and holds them to document 01. */
+/* Calls frostsorrel_fresh and frostsorrel_read as a C host does, and holds them to documents 01 and 02. */
 #include "check.h"
 #include "clauses.h"
 #include "frostsorrel.h"
@@ -31,13 +31,16 @@ static void expect_value(const char *what, const uint8_t *image, uint32_t number
     expect(what, image, BYTES, number, value);
 }
 
-/* Is the image good? Number 22 is no register, so a good image gets 2 there and a bad one gets 1. */
+/* Is the image good? Number 22 is no register, so a good image gets 2 there and a bad one gets 1; GSR is the CAN-B's. */
 static void expect_good(const char *what, const uint8_t *image, int good)
 {
     uint64_t answer = frostsorrel_read(image, BYTES, GSR);
+    uint32_t refusal = !good ? 1 : word_of(image, PROFILE) == ECAN ? 2 : 0;
 
-    check(good ? answer >> 32 == 0 : answer == REFUSED(1), "%s: GSR gives 0x%llX, but it is %s", what,
+    check(refusal ? answer == REFUSED(refusal) : answer >> 32 == 0, "%s: GSR gives 0x%llX, but it is %s", what,
           (unsigned long long)answer, good ? "good" : "not good");
+    expect(what, image, BYTES, FROSTSORREL_PROTECTION,
+           !good ? REFUSED(1) : word_of(image, MODE) == SLEEP ? 0 : word_of(image, PROTECTION));
     expect(what, image, BYTES, 22, REFUSED(good ? 2 : 1));
 }
 
@@ -58,44 +61,65 @@ static void scramble(uint8_t *bytes, size_t len)
 
 #define GUARD 17 /* odd, so that the image does not stand at an even address */
 
+/* The length is looked at first. */
+static uint32_t refusal_of_fresh(size_t len, uint32_t profile)
+{
+    if (len != BYTES)
+        return FROSTSORREL_BAD_IMAGE;
+    return profile < PROFILES ? FROSTSORREL_ACCEPTED : FROSTSORREL_NOT_ALLOWED;
+}
+
 /* Fresh over len bytes of an arena: what it answers, and that every byte it may not write stays. */
-static void fresh_over(uint8_t *arena, size_t size, size_t len)
+static void fresh_over(uint8_t *arena, size_t size, size_t len, uint32_t profile)
 {
     uint8_t expected[2 * GUARD + LONGEST];
+    uint32_t refusal = refusal_of_fresh(len, profile);
     uint64_t answer;
 
     memcpy(expected, arena, size);
-    if (len == BYTES)
-        put_fresh(expected + GUARD);
-    answer = frostsorrel_fresh(arena + GUARD, len);
-    check(answer == (len == BYTES ? 8192 : 8193), "fresh of %lu bytes answers %llu",
-          (unsigned long)len, (unsigned long long)answer);
-    check(memcmp(expected, arena, size) == 0, "fresh of %lu bytes leaves other bytes than it should",
-          (unsigned long)len);
+    if (refusal == FROSTSORREL_ACCEPTED)
+        put_fresh_of(expected + GUARD, profile);
+    answer = frostsorrel_fresh(arena + GUARD, len, profile);
+    check(answer == 8192 + refusal, "fresh of %lu bytes, profile %lu, answers %llu", (unsigned long)len,
+          (unsigned long)profile, (unsigned long long)answer);
+    check(memcmp(expected, arena, size) == 0, "fresh of %lu bytes, profile %lu, leaves other bytes than it should",
+          (unsigned long)len, (unsigned long)profile);
 }
 
-static void test_fresh(void)
+static void test_fresh(uint32_t profile)
 {
     uint8_t arena[2 * GUARD + LONGEST];
 
     for (size_t len = 0; len <= LONGEST; len++) {
         scramble(arena, sizeof arena);
-        fresh_over(arena, sizeof arena, len);
+        fresh_over(arena, sizeof arena, len, profile);
     }
     memset(arena, 0xFF, sizeof arena);
-    fresh_over(arena, sizeof arena, BYTES);
-    fresh_over(arena, sizeof arena, BYTES); /* over a fresh image */
+    fresh_over(arena, sizeof arena, BYTES, profile);
+    fresh_over(arena, sizeof arena, BYTES, profile); /* over a fresh image */
+    fresh_over(arena, sizeof arena, BYTES, CAN_B);
+    fresh_over(arena, sizeof arena, BYTES, profile); /* over that of a CAN-B */
     memset(arena, 0, sizeof arena);
-    fresh_over(arena, sizeof arena, BYTES);
-    fresh_over(arena, sizeof arena, BYTES - 1);
-    fresh_over(arena, sizeof arena, BYTES + 1);
+    fresh_over(arena, sizeof arena, BYTES, profile);
+    fresh_over(arena, sizeof arena, BYTES - 1, profile);
+    fresh_over(arena, sizeof arena, BYTES + 1, profile);
+    fresh_over(arena, sizeof arena, 640, profile);
+}
+
+static void test_profiles(void)
+{
+    static const uint32_t profiles[] = {0, 1, 2, 3, 31, 32, 256, 257, 0x10000, 0x80000000, 0x80000001, 0xFFFFFFFF};
+
+    for (size_t i = 0; i < COUNT(profiles); i++)
+        test_fresh(profiles[i]);
 }
 
 static void test_answer_parts(void)
 {
     uint8_t image[BYTES];
-    uint64_t accepted = frostsorrel_fresh(image, BYTES);
-    uint64_t refused = frostsorrel_fresh(image, BYTES - 1);
+    uint64_t accepted = frostsorrel_fresh(image, BYTES, CAN_B);
+    uint64_t refused = frostsorrel_fresh(image, BYTES - 1, CAN_B);
+    uint64_t other_profile = frostsorrel_fresh(image, BYTES, PROFILES);
     uint64_t bad_number = frostsorrel_read(image, BYTES, 22);
 
     check(frostsorrel_answer_refusal(accepted) == FROSTSORREL_ACCEPTED, "accepted: refusal");
@@ -104,6 +128,8 @@ static void test_answer_parts(void)
     check(frostsorrel_answer_refusal(refused) == FROSTSORREL_BAD_IMAGE, "refused: refusal");
     check(frostsorrel_answer_mailbox(refused) == FROSTSORREL_NO_MAILBOX, "refused: mailbox");
     check(frostsorrel_answer_count(refused) == 0, "refused: count");
+    check(frostsorrel_answer_refusal(other_profile) == FROSTSORREL_NOT_ALLOWED, "profile 2: refusal");
+    check(frostsorrel_answer_mailbox(other_profile) == FROSTSORREL_NO_MAILBOX, "profile 2: mailbox");
     check(frostsorrel_read_refusal(bad_number) == FROSTSORREL_UNKNOWN, "read: refusal");
     check(frostsorrel_read_value(bad_number) == 0, "read: value of a refusal");
 }
@@ -114,10 +140,18 @@ static void test_fresh_registers(void)
 {
     uint8_t image[BYTES];
 
-    frostsorrel_fresh(image, BYTES);
+    frostsorrel_fresh(image, BYTES, CAN_B);
     for (uint32_t number = 0; number <= 21; number++)
         expect_value("fresh", image, number, number == FROSTSORREL_MD ? 0x80000000 : 0);
+    for (uint32_t number = 64; number <= 96; number++)
+        expect_value("fresh", image, number, 0);
     expect_value("fresh", image, GSR, 0x1F080);
+    frostsorrel_fresh(image, BYTES, ECAN);
+    for (uint32_t number = 0; number <= 21; number++)
+        expect_value("fresh eCAN", image, number, 0);
+    for (uint32_t number = 64; number <= 96; number++)
+        expect_value("fresh eCAN", image, number, 0);
+    expect("fresh eCAN", image, BYTES, GSR, REFUSED(2));
 }
 
 /* A good image in which no two register words that can be read are equal. Mailbox 9 is in the slot. */
@@ -152,52 +186,70 @@ static const uint32_t distinct[] = {
     1,          /* TSO */
 };
 
-static void put_distinct(uint8_t *image)
+static uint32_t distinct_mask(int n)
 {
-    put_fresh(image);
+    return 0x80070001 + (uint32_t)n * 0x101;
+}
+
+static void put_distinct(uint8_t *image, uint32_t profile)
+{
+    put_fresh_of(image, profile);
     for (int n = 0; n < 32; n++) {
         put(image, MAILBOX(n, 0), 0xE1000000 + (uint32_t)n * 0x10101);
         put(image, MAILBOX(n, 1), (uint32_t)n << 24 | 0x11550018);
         put(image, MAILBOX(n, 2), 0x30000001 + (uint32_t)n);
         put(image, MAILBOX(n, 3), 0x40000001 + (uint32_t)n);
+        put(image, MASK(n), distinct_mask(n));
     }
+    put(image, PROTECTION, 0xC0FFEE11);
     for (size_t k = 0; k < COUNT(distinct); k++)
         put(image, MC + (int)k, distinct[k]);
 }
 
-static void test_distinct_registers(void)
+/* GSR reads this in a CAN-B, and is refused in an eCAN. */
+static uint64_t gsr_answer(uint32_t profile, uint32_t value)
+{
+    return profile == ECAN ? REFUSED(2) : value;
+}
+
+static void test_distinct_registers(uint32_t profile)
 {
     uint8_t image[BYTES];
 
-    put_distinct(image);
+    put_distinct(image, profile);
     for (uint32_t number = 0; number <= 21; number++)
         expect_value("distinct", image, number, distinct[number]);
-    expect_value("distinct", image, GSR, 0x940B);
+    for (uint32_t n = 0; n < 32; n++)
+        expect_value("distinct", image, FROSTSORREL_MASK_0 + n, distinct_mask((int)n));
+    expect_value("distinct", image, FROSTSORREL_PROTECTION, 0xC0FFEE11);
+    expect("distinct", image, BYTES, GSR, gsr_answer(profile, 0x940B));
 }
 
 static const struct edit to_sleep[EDITS] = {
-    SET(MODE, SLEEP), SET(WAITING, 4), SET(SLOT, 31), SET(TRS, 0), SET(TRR, 0),
+    SET(MODE, SLEEP), SET(WAITING, 4), SET(SLOT, 32), SET(TRS, 0), SET(TRR, 0),
 };
 static const struct edit counters_to_0[EDITS] = {SET(TEC, 0), SET(REC, 0)};
 
 /* The same image put to sleep: TSO is set and shows nowhere. */
-static void put_distinct_asleep(uint8_t *image)
+static void put_distinct_asleep(uint8_t *image, uint32_t profile)
 {
-    put_distinct(image);
+    put_distinct(image, profile);
     change(image, to_sleep);
     change(image, counters_to_0);
 }
 
-static void test_asleep(void)
+static void test_asleep(uint32_t profile)
 {
     uint8_t image[BYTES];
 
-    put_distinct_asleep(image);
+    put_distinct_asleep(image, profile);
     for (uint32_t number = 0; number <= 21; number++)
         expect_value("asleep", image, number, 0);
-    expect_value("asleep", image, GSR, 0x0001F040);
-    make_with(image, ASLEEP, TSO, 0);
-    expect_value("asleep without TSO", image, GSR, 0x0001F040);
+    for (uint32_t number = 64; number <= 96; number++)
+        expect_value("asleep", image, number, 0);
+    expect("asleep", image, BYTES, GSR, gsr_answer(profile, 0x0001F040));
+    make_with_of(image, profile, ASLEEP, TSO, 0);
+    expect("asleep without TSO", image, BYTES, GSR, gsr_answer(profile, 0x0001F040));
 }
 
 /* ---- GSR */
@@ -258,7 +310,8 @@ static void test_gsr(void)
 /* ---- refusals of a read */
 
 static const uint32_t far_numbers[] = {
-    64, 96, 128, 255, 256, 256 + 32, 65536, 65536 + 21, 0x7FFFFFFF, 0x80000000, 0x80000020, 0xFFFFFFFF,
+    97, 98, 128, 160, 193, 255, 256, 256 + 32, 256 + 64, 65536, 65536 + 21, 65536 + 96, 0x7FFFFFFF, 0x80000000,
+    0x80000020, 0x80000040, 0xFFFFFFFF,
 };
 
 static void test_numbers(const char *what, const uint8_t *image, uint64_t answer)
@@ -270,49 +323,54 @@ static void test_numbers(const char *what, const uint8_t *image, uint64_t answer
         expect(what, image, BYTES, far_numbers[i], answer);
 }
 
-static void test_read_refusals(void)
+static void test_read_refusals(uint32_t profile)
 {
     uint8_t image[BYTES];
 
-    put_fresh(image);
+    put_fresh_of(image, profile);
     test_numbers("no such register", image, REFUSED(2));
-    put_distinct(image);
+    put_distinct(image, profile);
     test_numbers("no such register, distinct", image, REFUSED(2));
-    put_distinct_asleep(image);
+    put_distinct_asleep(image, profile);
     test_numbers("no such register, asleep", image, REFUSED(2));
 
     put(image, TSO, 2);
     test_numbers("bad image, asleep", image, REFUSED(1));
-    make_with(image, FRESH, SPARE, 1);
+    make_with_of(image, profile, FRESH, SPARE, 1);
     test_numbers("bad image", image, REFUSED(1));
     for (uint32_t number = 0; number <= 21; number++)
+        expect("bad image", image, BYTES, number, REFUSED(1));
+    for (uint32_t number = 64; number <= 96; number++)
         expect("bad image", image, BYTES, number, REFUSED(1));
     expect("bad image", image, BYTES, GSR, REFUSED(1));
 }
 
 /* A fresh image with zero bytes behind it, read at every length. */
-static void test_read_lengths(void)
+static void test_read_lengths(uint32_t profile)
 {
     uint8_t image[LONGEST];
 
     memset(image, 0, sizeof image);
-    put_fresh(image);
+    put_fresh_of(image, profile);
     for (size_t len = 0; len <= LONGEST; len++) {
-        expect("length", image, len, GSR, len == BYTES ? 0x1F080 : REFUSED(1));
+        expect("length", image, len, GSR, len == BYTES ? gsr_answer(profile, 0x1F080) : REFUSED(1));
+        expect("length", image, len, FROSTSORREL_PROTECTION, len == BYTES ? 0 : REFUSED(1));
         expect("length", image, len, 22, len == BYTES ? REFUSED(2) : REFUSED(1));
     }
 }
 
 int main(void)
 {
-    test_fresh();
+    test_profiles();
     test_answer_parts();
     test_fresh_registers();
-    test_distinct_registers();
-    test_asleep();
     test_gsr();
-    test_read_refusals();
-    test_read_lengths();
+    for (uint32_t profile = CAN_B; profile <= ECAN; profile++) {
+        test_distinct_registers(profile);
+        test_asleep(profile);
+        test_read_refusals(profile);
+        test_read_lengths(profile);
+    }
     ask_about_good_images(expect_good);
     return report("host fresh/read");
 }
