@@ -3,6 +3,8 @@
  * compares them with the image after every step: what is held, lost and waiting with RMP, RML and TRS, and how each
  * frame and request ended with what the books never look at, TA, AA, GIF and the mode that the step leaves. A frame that
  * came to no mailbox has left all of them as they were, and one that was not heard has left everything, or woken the model.
+ * One that was passed over has left everything but REC, and its explanation names a protected mailbox and none that
+ * matched; no other frame has such an explanation. The runs are of both profiles.
  */
 #include "check.h"
 #include "command/books.h"
@@ -11,7 +13,7 @@
 
 static const char *const entry_names[ENTRIES] = {
     "stored", "released", "overwritten", "dropped by reset", "raised", "sent", "aborted",
-    "dropped by sleep", "dropped by reset", "not heard", "not taken",
+    "dropped by sleep", "dropped by reset", "not heard", "not taken", "passed over",
 };
 
 /* ---- what must hold after every step */
@@ -52,6 +54,32 @@ static int only_woke(const uint8_t *before, const uint8_t *image)
     return word_of(before, MODE) == SLEEP && memcmp(woken, image, BYTES) == 0;
 }
 
+/* Is nothing else of the image new than that REC fell, as for a frame that was heard? */
+static int only_rec_fell(const uint8_t *before, const uint8_t *image)
+{
+    uint32_t rec = word_of(before, REC);
+    uint8_t heard[BYTES];
+
+    memcpy(heard, before, BYTES);
+    put(heard, REC, rec > 127 ? 127 : rec - (rec > 0));
+    return memcmp(heard, image, BYTES) == 0;
+}
+
+/* Does the explanation of the frame say that it was passed over by all that match, and by one at least? */
+static int explained_as_passed_over(const uint8_t *before, const uint8_t *event)
+{
+    uint8_t list[FROSTSORREL_EXPLANATION_BYTES];
+    uint64_t answer = frostsorrel_explain(before, BYTES, event, FROSTSORREL_EVENT_BYTES, list, sizeof list);
+    int is_protected = 0;
+
+    for (size_t i = 0; i < frostsorrel_answer_count(answer); i++) {
+        if (frostsorrel_line_reason(list, i) == FROSTSORREL_MATCHED)
+            return 0;
+        is_protected |= frostsorrel_line_reason(list, i) == FROSTSORREL_PROTECTED;
+    }
+    return is_protected;
+}
+
 /* Does the image after the step say so too? Of what begins RMP and TRS do. */
 static int fits(const struct made *m, const uint8_t *before, const uint8_t *event, const uint8_t *image)
 {
@@ -64,7 +92,9 @@ static int fits(const struct made *m, const uint8_t *before, const uint8_t *even
     case FRAME_RESET:
     case REQUEST_RESET: return event[0] == FROSTSORREL_RESET;
     case NOT_HEARD: return memcmp(before, image, BYTES) == 0 || only_woke(before, image);
-    case NOT_TAKEN: return only_heard(before, image);
+    case NOT_TAKEN: return only_heard(before, image) && !explained_as_passed_over(before, event);
+    case PASSED_OVER:
+        return only_heard(before, image) && only_rec_fell(before, image) && explained_as_passed_over(before, event);
     default: return 1;
     }
 }
@@ -103,12 +133,12 @@ static void check_frame(const struct books *b, const uint8_t *before, const uint
         check(waits || b->mades > 0, "run %lu, step %d: a frame that nothing is booked of", run, step);
 }
 
-static void run(unsigned long number, int steps, struct books *b)
+static void run(uint32_t profile, unsigned long number, int steps, struct books *b)
 {
     uint8_t image[BYTES], before[BYTES], event[LONGEST_EVENT];
 
     seed_generator(number);
-    frostsorrel_fresh(image, BYTES);
+    frostsorrel_fresh(image, BYTES, profile);
     for (int step = 1; step <= steps; step++) {
         size_t len = likely_event(event, image);
         uint64_t answer;
@@ -122,37 +152,51 @@ static void run(unsigned long number, int steps, struct books *b)
     }
 }
 
-/* Can a mailbox have this entry? The last kinds are those of no mailbox; 31 never sends. */
-static int can_have(int n, int entry)
+/*
+ * Can a mailbox have this entry? The last kinds are those of no mailbox. In a CAN-B 31 never sends, and nothing is passed
+ * over.
+ */
+static int can_have(uint32_t profile, int n, int entry)
 {
     if (n == FROSTSORREL_NO_MAILBOX)
-        return entry >= NOT_HEARD;
-    return entry < (n == 31 ? RAISED : NOT_HEARD);
+        return entry >= NOT_HEARD && (entry != PASSED_OVER || profile == ECAN);
+    return entry < (n == 31 && profile == CAN_B ? RAISED : NOT_HEARD);
 }
 
+typedef unsigned long sums_of_runs[ENTRIES][FROSTSORREL_MAILBOXES + 1];
+
 /* The runs are worth something only if they had every kind of entry at every mailbox that can. */
-static void check_not_empty(unsigned long sums[ENTRIES][FROSTSORREL_MAILBOXES + 1])
+static void check_not_empty(uint32_t profile, sums_of_runs sums)
 {
     for (int e = 0; e < ENTRIES; e++)
         for (int n = 0; n <= FROSTSORREL_NO_MAILBOX; n++)
-            check(can_have(n, e) == (sums[e][n] > 0), "mailbox %d: %lu %s", n, sums[e][n], entry_names[e]);
+            check(can_have(profile, n, e) == (sums[e][n] > 0), "%s, mailbox %d: %lu %s",
+                  frostsorrel_profile_name(profile), n, sums[e][n], entry_names[e]);
 }
 
 #define RUNS 20
 #define STEPS 10000
 
-int main(void)
+static void runs_of(uint32_t profile, sums_of_runs sums)
 {
     static struct books b;
-    static unsigned long sums[ENTRIES][FROSTSORREL_MAILBOXES + 1];
 
     for (unsigned long number = 1; number <= RUNS; number++) {
         memset(&b, 0, sizeof b); /* all begin empty */
-        run(number, STEPS, &b);
+        run(profile, number, STEPS, &b);
         for (int e = 0; e < ENTRIES; e++)
             for (int n = 0; n <= FROSTSORREL_NO_MAILBOX; n++)
                 sums[e][n] += b.count[e][n];
     }
-    check_not_empty(sums);
+    check_not_empty(profile, sums);
+}
+
+int main(void)
+{
+    static sums_of_runs of_can_b, of_ecan;
+
+    runs_of(CAN_B, of_can_b);
+    runs_of(ECAN, of_ecan);
+    printf("host books: %lu frames passed over\n", of_ecan[PASSED_OVER][FROSTSORREL_NO_MAILBOX]);
     return report("host books");
 }

@@ -398,7 +398,7 @@ static void register_names(void)
         {FROSTSORREL_WORD_OPTIONS, "options"},
         {FROSTSORREL_WORD_TSO, "TSO"},
         {28, "word 28"}, {31, "word 31"}, {33, "no name"}, {63, "no name"},
-        {FROSTSORREL_PROTECTION, "protection"}, {97, "no name"}, {0xFFFFFFFF, "no name"},
+        {FROSTSORREL_PROTECTION, "PROTECTION"}, {97, "no name"}, {0xFFFFFFFF, "no name"},
     };
     char mask[16];
 
@@ -406,7 +406,7 @@ static void register_names(void)
         same_name("register", registers[i].number, frostsorrel_register_name(registers[i].number),
                   registers[i].name);
     for (uint32_t n = 0; n < FROSTSORREL_MAILBOXES; n++) {
-        snprintf(mask, sizeof mask, "mask %lu", (unsigned long)n);
+        snprintf(mask, sizeof mask, "MASK%lu", (unsigned long)n);
         same_name("register", 64 + n, frostsorrel_register_name(FROSTSORREL_MASK_0 + n), mask);
     }
     same_number("the last mask", FROSTSORREL_MASK_31, 95);

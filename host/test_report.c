@@ -368,7 +368,7 @@ static void check_bad_image(void)
 
 static int is_compared(int reason)
 {
-    return reason >= FROSTSORREL_IDE_DIFFERS && reason <= FROSTSORREL_MATCHED;
+    return (reason >= FROSTSORREL_IDE_DIFFERS && reason <= FROSTSORREL_MATCHED) || reason == FROSTSORREL_PROTECTED;
 }
 
 /* The first line is wrong: of a mailbox that was compared it says that it is disabled, and of another that it was. */
@@ -442,7 +442,27 @@ static void check_status(void)
 
 /* ---- explanations */
 
-static int by_mask, by_no_mask; /* how often a mask made a drawn frame match, or would have freed a bit and was not used */
+/* How often a mask made a drawn frame match, or would have freed a bit and was not used; each in both profiles. */
+static int by_mask[2], by_no_mask[2];
+static int protections; /* how many lines said that a mailbox is protected */
+
+static int is_ecan(const uint8_t *image)
+{
+    return frostsorrel_profile_word(image) == FROSTSORREL_ECAN;
+}
+
+/* The place of a mailbox in the search. */
+static int place_of(const uint8_t *image, int mailbox)
+{
+    return is_ecan(image) ? 31 - mailbox : mailbox;
+}
+
+static const char *mask_name(const uint8_t *image, int mailbox)
+{
+    if (is_ecan(image))
+        return frostsorrel_register_name(FROSTSORREL_MASK_0 + (uint32_t)mailbox);
+    return mailbox == 31 ? "LAM" : "GAM";
+}
 
 /* Has the mailbox of this line another line once its GAME, or LAME, is the other way round? */
 static int hangs_on_mask(const uint8_t *before, const uint8_t *event, const uint8_t *line)
@@ -452,7 +472,7 @@ static int hangs_on_mask(const uint8_t *before, const uint8_t *event, const uint
     memcpy(image, before, sizeof image);
     image[16 * line[0] + 3] ^= FROSTSORREL_GAME >> 24;
     frostsorrel_explain(image, sizeof image, event, FROSTSORREL_EVENT_BYTES, list, sizeof list);
-    return memcmp(list + FROSTSORREL_LINE_BYTES * line[0], line, FROSTSORREL_LINE_BYTES) != 0;
+    return memcmp(list + FROSTSORREL_LINE_BYTES * place_of(before, line[0]), line, FROSTSORREL_LINE_BYTES) != 0;
 }
 
 /*
@@ -462,19 +482,20 @@ static int hangs_on_mask(const uint8_t *before, const uint8_t *event, const uint
 static void check_mask(const uint8_t *before, const uint8_t *event, const uint8_t *line, const char *words,
                        const char *name)
 {
-    const char *mask = line[0] == 31 ? "LAM" : "GAM", *named = strstr(words, mask);
+    const char *mask = mask_name(before, line[0]), *named = strstr(words, mask);
     int masked = before[16 * line[0] + 3] >> 6 & 1, hangs = hangs_on_mask(before, event, line);
     int freed = strstr(words, ", which ") != 0, unused = strstr(words, " would free it, but ") != 0;
 
-    if (line[1] == FROSTSORREL_MATCHED)
+    if (line[1] == FROSTSORREL_MATCHED || line[1] == FROSTSORREL_PROTECTED)
         check(freed == hangs && !unused, "%s: mailbox %d matched: %s", name, line[0], words);
     else if (masked)
         check(named && !freed && !unused, "%s: mailbox %d is masked: %s", name, line[0], words);
     else
         check(unused == hangs && !freed, "%s: mailbox %d is not masked: %s", name, line[0], words);
     check(named || !(freed || unused), "%s: mailbox %d has %s: %s", name, line[0], mask, words);
-    by_mask += freed;
-    by_no_mask += unused;
+    by_mask[is_ecan(before)] += freed;
+    by_no_mask[is_ecan(before)] += unused;
+    protections += line[1] == FROSTSORREL_PROTECTED;
 }
 
 /* What comes of a match: RFH counts only where MD does not let the mailbox receive. */
@@ -499,6 +520,8 @@ static void want_line(struct text *t, const uint8_t *before, uint64_t answer, co
         text_add(t, "bit %d of the identifier differs", line[2]);
     if (line[1] == FROSTSORREL_MATCHED)
         text_add(t, "matched, %s", wanted_fate(before, line[0], answer));
+    if (line[1] == FROSTSORREL_PROTECTED)
+        text_add(t, "protected, and keeps the frame that it holds");
 }
 
 /* Bits as the identifier of this frame is written. */
@@ -720,8 +743,11 @@ int main(int argc, char **argv)
         check_any_image();
     check(kept > kept_by_rec && kept_by_rec > 0, "%d drawn units kept their TEC, %d of them by REC alone", kept,
           kept_by_rec);
-    check(by_mask > 0 && by_no_mask > 0, "masks made %d drawn frames match, and would have freed a bit %d times",
-          by_mask, by_no_mask);
+    for (int profile = 0; profile < 2; profile++)
+        check(by_mask[profile] > 0 && by_no_mask[profile] > 0,
+              "profile %d: masks made %d drawn frames match, and would have freed a bit %d times", profile,
+              by_mask[profile], by_no_mask[profile]);
+    check(protections > 0, "no line said that a mailbox is protected");
     check(taken[0] == 0xFFFF && taken[1] == 0xFFFF,
           "not every DLC was drawn: 0x%lX in data frames, 0x%lX in remote ones", wide(taken[0]), wide(taken[1]));
     return report("host report");

@@ -721,6 +721,31 @@ static void test_bad_image(void)
     expect_image("bytes 0xFF, closed", &s, image);
 }
 
+/* ---- profiles: an opening makes a CAN-B; an image of the caller's stays what it is */
+
+static void test_profiles(void)
+{
+    uint8_t image[BYTES];
+    struct stream s;
+
+    open_stream(&s);
+    put_fresh_of(s.image, ECAN);
+    put(s.image, MASK(3), 0x80000000);
+    put(s.image, PROTECTION, 8);
+    expect_call("an opening on an eCAN", &s, opening(24), 0, HEADER);
+    put_fresh(image);
+    expect_image("an opening on an eCAN", &s, image);
+
+    put_fresh_of(s.image, ECAN);
+    put(s.image, PROTECTION, 8);
+    feed("an eCAN, its mailbox 3 protected", &s, example, LENGTH, 0,
+         "1 0 32 0\n2 0 32 0\n3 0 32 0\n4 0 32 0\n5 0 32 0\n6 0 3 1\n7 0 32 1\n8 0 32 0\n9 0 32 1\n");
+    check(word_of(s.image, PROFILE) == ECAN && word_of(s.image, PROTECTION) == 8 && word_of(s.image, RML) == 0 &&
+              word_of(s.image, MAILBOX(3, 2)) == 0x2211,
+          "an eCAN, its mailbox 3 protected: the first frame is not kept");
+    close_stream("an eCAN, its mailbox 3 protected", &s, 0, "end 9\n");
+}
+
 /* ---- states that no call leaves, each beside one that a call leaves */
 
 #define ANY 0xFF
@@ -1072,6 +1097,7 @@ int main(int argc, char **argv)
     test_lengths();
     test_order();
     test_bad_image();
+    test_profiles();
     test_given_states();
     test_bytes_behind();
     test_first_bytes();

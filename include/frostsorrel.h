@@ -724,15 +724,15 @@ static inline const char *frostsorrel_name_of(const char *const *names, size_t c
 
 /*
  * A register, and the other words of the block: "MC" to "REC", "mode" to "TSO", "word 28" on; "GSR"; from 64 on
- * "mask 0" to "mask 31" and "protection".
+ * "MASK0" to "MASK31" and "PROTECTION".
  */
 static inline const char *frostsorrel_register_name(uint32_t number)
 {
     static const char *const own[] = {
-        "mask 0",  "mask 1",  "mask 2",  "mask 3",  "mask 4",  "mask 5",  "mask 6",  "mask 7",  "mask 8",
-        "mask 9",  "mask 10", "mask 11", "mask 12", "mask 13", "mask 14", "mask 15", "mask 16", "mask 17",
-        "mask 18", "mask 19", "mask 20", "mask 21", "mask 22", "mask 23", "mask 24", "mask 25", "mask 26",
-        "mask 27", "mask 28", "mask 29", "mask 30", "mask 31", "protection"};
+        "MASK0", "MASK1", "MASK2", "MASK3", "MASK4", "MASK5", "MASK6", "MASK7", "MASK8", "MASK9",
+        "MASK10", "MASK11", "MASK12", "MASK13", "MASK14", "MASK15", "MASK16", "MASK17", "MASK18",
+        "MASK19", "MASK20", "MASK21", "MASK22", "MASK23", "MASK24", "MASK25", "MASK26", "MASK27",
+        "MASK28", "MASK29", "MASK30", "MASK31", "PROTECTION"};
     static const char *const names[] = {
         "MC", "MD", "TRS", "TRR", "TA", "AA", "RMP", "RML", "LAM", "GAM", "RFP", "CDR", "MBTIF",
         "MBRIF", "MBIM", "GIF", "GIM", "BCR1", "BCR2", "TSC", "TEC", "REC", "mode", "waiting mode",

@@ -83,16 +83,52 @@ static int hears(const uint8_t *image)
            word_of(image, FROSTSORREL_TEC) < FROSTSORREL_BUS_OFF_TEC;
 }
 
-/*
- * The answer names the mailbox: one that receives has stored it, one that sends is to reply. A frame that was compared
- * was heard.
- */
-static void book_frame(struct books *b, const uint8_t *before, uint64_t answer)
+/* Does mailbox n of an eCAN match this frame, under its own mask? */
+static int matches(const uint8_t *before, uint32_t n, uint32_t frame)
+{
+    uint32_t word_0 = frostsorrel_mailbox_word(before, n, 0);
+    uint32_t freed = word_0 & FROSTSORREL_GAME ? frostsorrel_mask_word(before, n) : 0;
+    uint32_t identifier = frame & FROSTSORREL_IDE ? FROSTSORREL_IDENTIFIER_BITS : frostsorrel_standard(0x7FF);
+
+    return ((word_0 ^ frame) & (FROSTSORREL_IDE | identifier) & ~freed) == 0;
+}
+
+/* The mailboxes that are compared with this frame and match it. */
+static uint32_t matching(const uint8_t *before, uint32_t frame)
+{
+    uint32_t receiving = frame & FROSTSORREL_FRAME_RTR ? 0xFFFFFFFF : word_of(before, FROSTSORREL_MD);
+    uint32_t compared = word_of(before, FROSTSORREL_MC) & receiving, found = 0;
+
+    for (uint32_t n = 0; n < FROSTSORREL_MAILBOXES; n++)
+        if (compared & BIT(n) && matches(before, n, frame))
+            found |= BIT(n);
+    return found;
+}
+
+/* One mailbox matches, and every one that does receives, is protected and holds a frame. */
+static int passed_over(const struct books *b, const uint8_t *before, uint32_t frame)
+{
+    uint32_t guarded = frostsorrel_protection_word(before) & b->held & word_of(before, FROSTSORREL_MD);
+    uint32_t found = matching(before, frame);
+
+    return frostsorrel_profile_word(before) == FROSTSORREL_ECAN && found && !(found & ~guarded);
+}
+
+/* A frame that was compared was heard. */
+static enum entry entry_of_untaken(const struct books *b, const uint8_t *before, uint32_t frame, uint64_t answer)
+{
+    if (!hears(before) && !frostsorrel_answer_count(answer))
+        return NOT_HEARD;
+    return passed_over(b, before, frame) ? PASSED_OVER : NOT_TAKEN;
+}
+
+/* The answer names the mailbox: one that receives has stored it, one that sends is to reply. */
+static void book_frame(struct books *b, const uint8_t *before, uint32_t frame, uint64_t answer)
 {
     uint32_t n = frostsorrel_answer_mailbox(answer);
 
     if (n == FROSTSORREL_NO_MAILBOX)
-        enter(b, hears(before) || frostsorrel_answer_count(answer) ? NOT_TAKEN : NOT_HEARD, (int)n, 0);
+        enter(b, entry_of_untaken(b, before, frame, answer), (int)n, 0);
     else if (word_of(before, FROSTSORREL_MD) & BIT(n))
         stored(b, (int)n);
     else
@@ -148,7 +184,7 @@ void book(struct books *b, const uint8_t *before, const uint8_t *event, uint64_t
         book_register_write(b, before, event[1], frostsorrel_event_value(event));
         break;
     case FROSTSORREL_FRAME:
-        book_frame(b, before, answer);
+        book_frame(b, before, frostsorrel_event_value(event), answer);
         break;
     case FROSTSORREL_OUTCOME:
         book_outcome(b, before, event[1]);

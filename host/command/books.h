@@ -2,11 +2,11 @@
  * The books of every mailbox (document 01, "The books of one mailbox").
  *
  * What a step did is worked out from the event, the answer and the image before it: its MD, slot, TRR, mode,
- * waiting mode, TEC and recovery count. RMP, TRS and RML are never looked at for that: the books say what they
- * should be.
+ * waiting mode, TEC and recovery count, and of an eCAN what its search goes by: MC, masks, protection and word 0 of
+ * the mailboxes. RMP, TRS and RML are never looked at for that: the books say what they should be.
  *
  * Beside them stand the frames that came to no mailbox, so that every accepted frame has an entry or a request that
- * waits already.
+ * waits already. Those that were passed over are counted apart, once for the run (document 02, g).
  */
 #ifndef BOOKS_H
 #define BOOKS_H
@@ -18,7 +18,7 @@
 enum entry {
     STORED, RELEASED, OVERWRITTEN, FRAME_RESET, /* frames: stored, and the three ways they end */
     RAISED, SENDINGS, ABORTED, SLEPT, REQUEST_RESET, /* requests: raised, and the four ways they end */
-    NOT_HEARD, NOT_TAKEN, /* frames that came to no mailbox: theirs is FROSTSORREL_NO_MAILBOX */
+    NOT_HEARD, NOT_TAKEN, PASSED_OVER, /* frames that came to no mailbox: theirs is FROSTSORREL_NO_MAILBOX */
     ENTRIES
 };
 

@@ -9,20 +9,29 @@ struct meeting {
     uint32_t word_0;   /* of the mailbox */
     uint32_t frame;    /* the value of the event */
     uint32_t compared; /* IDE, and as many bits of the identifier as the frame has */
-    uint32_t mask;     /* what GAM, or LAM in mailbox 31, would free of these */
-    const char *name;  /* "GAM" or "LAM"; with an E behind it, the bit of word 0 that lets it do so */
+    uint32_t mask;     /* what GAM, or LAM in mailbox 31, would free of these; in an eCAN its own mask */
+    const char *name;  /* "GAM", "LAM", "MASK5" */
+    const char *bit;   /* "GAME", "LAME", "AME": the bit of word 0 that lets it do so */
 };
+
+static void find_mask(struct meeting *m, uint32_t mailbox, const uint8_t *before)
+{
+    int is_last = mailbox == FROSTSORREL_MAILBOXES - 1, is_ecan = frostsorrel_profile_word(before) == FROSTSORREL_ECAN;
+    uint32_t shared = is_last ? FROSTSORREL_LAM : FROSTSORREL_GAM, own = FROSTSORREL_MASK_0 + mailbox;
+
+    m->mask = is_ecan ? frostsorrel_mask_word(before, mailbox) : frostsorrel_register_word(before, shared);
+    m->mask &= m->compared;
+    m->name = frostsorrel_register_name(is_ecan ? own : shared);
+    m->bit = is_ecan ? "AME" : is_last ? "LAME" : "GAME";
+}
 
 static struct meeting meeting_at(uint32_t mailbox, const uint8_t *before, const uint8_t *event)
 {
     uint32_t frame = frostsorrel_event_value(event);
-    uint32_t number = mailbox == FROSTSORREL_MAILBOXES - 1 ? FROSTSORREL_LAM : FROSTSORREL_GAM;
     uint32_t identifier = frame & FROSTSORREL_IDE ? FROSTSORREL_IDENTIFIER_BITS : frostsorrel_standard(0x7FF);
-    uint32_t compared = FROSTSORREL_IDE | identifier;
-    uint32_t mask = frostsorrel_register_word(before, number) & compared;
-    struct meeting m = {frostsorrel_mailbox_word(before, mailbox, 0), frame, compared, mask,
-                        frostsorrel_register_name(number)};
+    struct meeting m = {frostsorrel_mailbox_word(before, mailbox, 0), frame, FROSTSORREL_IDE | identifier, 0, 0, 0};
 
+    find_mask(&m, mailbox, before);
     return m;
 }
 
@@ -66,7 +75,7 @@ static int is_masked(const struct meeting *m)
 static void say_unused_mask(struct text *t, const struct meeting *m, uint32_t differing)
 {
     if (m->mask & differing)
-        text_add(t, "; %s would free it, but %sE is 0", m->name, m->name);
+        text_add(t, "; %s would free it, but %s is 0", m->name, m->bit);
 }
 
 static void say_other_kind(struct text *t, const struct meeting *m)
@@ -122,7 +131,7 @@ void say_line_detail(struct text *t, const uint8_t *before, const uint8_t *event
         say_other_kind(t, &m);
     else if (reason == FROSTSORREL_BIT_DIFFERS)
         say_other_bit(t, &m, frostsorrel_line_bit(list, line));
-    else if (reason == FROSTSORREL_MATCHED)
+    else if (reason == FROSTSORREL_MATCHED || reason == FROSTSORREL_PROTECTED)
         say_match(t, &m);
 }
 
@@ -158,6 +167,8 @@ void say_line(struct text *t, const uint8_t *before, uint64_t answer, const uint
         text_add(t, "%s", frostsorrel_reason_name(reason));
     if (reason == FROSTSORREL_TRANSMITS)
         text_add(t, ", and this is a data frame");
+    if (reason == FROSTSORREL_PROTECTED)
+        text_add(t, ", and keeps the frame that it holds");
     if (reason == FROSTSORREL_MATCHED)
         text_add(t, ", %s", fate(before, mailbox, frostsorrel_answer_refusal(answer) != FROSTSORREL_ACCEPTED));
 }

@@ -57,7 +57,7 @@ static enum mark mark_of(enum entry entry)
     static const enum mark of[ENTRIES] = {
         MARK_STORED, MARK_RELEASED, MARK_LOST,    MARK_DROPPED, /* frames */
         MARK_RAISED, MARK_SENT,     MARK_ABORTED, MARK_ENDED,   MARK_ENDED, /* requests */
-        MARK_NOT_HEARD, MARK_NOT_TAKEN,
+        MARK_NOT_HEARD, MARK_NOT_TAKEN, MARK_NOT_TAKEN, /* no trace has frames that were passed over */
     };
 
     return of[entry];

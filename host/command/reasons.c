@@ -39,12 +39,19 @@ static void say_unknown(struct text *t, const uint8_t *event)
 
 /* ---- 4: a value that is not allowed, or a byte that is not used */
 
+static const char *bad_mask(uint32_t value)
+{
+    return value & (FROSTSORREL_GAME | FROSTSORREL_RFH) ? "bits 30 and 29 of a mask must be 0" : 0;
+}
+
 static const char *bad_register(uint32_t number, uint32_t value)
 {
+    if (number >= FROSTSORREL_MASK_0 && number <= FROSTSORREL_MASK_31)
+        return bad_mask(value);
     switch (number) {
     case FROSTSORREL_LAM:
     case FROSTSORREL_GAM:
-        return value & (FROSTSORREL_GAME | FROSTSORREL_RFH) ? "bits 30 and 29 of a mask must be 0" : 0;
+        return bad_mask(value);
     case FROSTSORREL_CDR:
         return value >> 31 ? "mailbox 31 never sends, so bit 31 must be 0" : 0;
     case FROSTSORREL_GIF:
@@ -169,11 +176,29 @@ static void say_busy(struct text *t, const uint8_t *before, const uint8_t *event
 
 /* ---- 6: locked */
 
+static int is_ecan(const uint8_t *image)
+{
+    return frostsorrel_profile_word(image) == FROSTSORREL_ECAN;
+}
+
+/* The other maker's masks, and protection. */
+static int is_foreign(const uint8_t *before, uint32_t number)
+{
+    if (is_ecan(before))
+        return number == FROSTSORREL_LAM || number == FROSTSORREL_GAM;
+    return number >= FROSTSORREL_MASK_0;
+}
+
 static void say_locked_write(struct text *t, const uint8_t *before, const uint8_t *event)
 {
-    uint32_t turned = (frostsorrel_event_value(event) ^ word_of(before, FROSTSORREL_MD)) & ~BIT(31);
+    uint32_t turned = frostsorrel_event_value(event) ^ word_of(before, FROSTSORREL_MD);
 
-    if (event[1] == FROSTSORREL_MD)
+    if (!is_ecan(before))
+        turned &= ~BIT(31); /* which stays 1, whatever is written */
+    if (is_foreign(before, event[1]))
+        text_add(t, is_ecan(before) ? "%s is the CAN-B's, and this is an eCAN" : "%s is the eCAN's, and this is a CAN-B",
+                 frostsorrel_register_name(event[1]));
+    else if (event[1] == FROSTSORREL_MD)
         say_forbidden(t, turned & word_of(before, FROSTSORREL_MC), " cannot be turned round while enabled (MC)");
     else if (word_of(before, FROSTSORREL_WORD_MODE) != FROSTSORREL_CONFIGURATION)
         text_add(t, "%s can be written in configuration only", frostsorrel_register_name(event[1]));

@@ -32,7 +32,7 @@ static int is_named(const uint8_t *before, uint32_t n)
 }
 
 /*
- * How a frame has to be answered, going by its explanation: the lines with reasons 3, 4 and 5 are the mailboxes that
+ * How a frame has to be answered, going by its explanation: the lines with reasons 3, 4, 5 and 7 are the mailboxes that
  * were compared, and the one that matched is named. A frame that is not heard has no such line.
  */
 static uint64_t explained_answer(const uint8_t *before, const struct explanation *e)
@@ -43,7 +43,8 @@ static uint64_t explained_answer(const uint8_t *before, const struct explanation
     for (size_t i = 0; i < e->count; i++) {
         uint32_t n = frostsorrel_line_mailbox(e->list, i), reason = frostsorrel_line_reason(e->list, i);
 
-        compared += reason >= FROSTSORREL_IDE_DIFFERS && reason <= FROSTSORREL_MATCHED;
+        compared += (reason >= FROSTSORREL_IDE_DIFFERS && reason <= FROSTSORREL_MATCHED) ||
+                    reason == FROSTSORREL_PROTECTED;
         if (reason == FROSTSORREL_MATCHED && is_named(before, n))
             named = n;
     }
@@ -118,7 +119,7 @@ static void take_steps(struct run *r)
     r->step = grown(0, ((size_t)r->steps + 2) * sizeof *r->step);
     r->image = grown(0, ((size_t)r->steps + 1) * sizeof *r->image);
     r->step[1].first_made = 0;
-    frostsorrel_fresh(r->image[0], FROSTSORREL_IMAGE_BYTES);
+    frostsorrel_fresh(r->image[0], FROSTSORREL_IMAGE_BYTES, FROSTSORREL_CAN_B);
     for (int section = 0; section < SECTIONS; section++)
         for (int i = 0; i < r->trace.section[section].count; i++)
             take_step(r, ++step, r->trace.section[section].events + FROSTSORREL_EVENT_BYTES * i);

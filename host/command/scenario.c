@@ -453,10 +453,10 @@ static uint8_t take_register(struct reader *r)
     uint32_t wanted, number = 0;
     int numbered = is_number(r, &wanted);
 
-    while (number <= FROSTSORREL_GSR &&
+    while (number <= FROSTSORREL_PROTECTION &&
            !(is_register(number) && (numbered ? number == wanted : stands(r, frostsorrel_register_name(number)))))
         number++;
-    if (number <= FROSTSORREL_GSR) {
+    if (number <= FROSTSORREL_PROTECTION) {
         advance(r);
     } else {
         expect(r, "a register, by its name or number, as `frostsorrel registers` lists them", 0);

@@ -34,6 +34,7 @@ static const struct way {
     {FRAME_RESET, LOSS, "dropped unread by a reset"},
     {NOT_HEARD, MISSED, "not heard"},
     {NOT_TAKEN, MISSED, "taken by no mailbox"},
+    {PASSED_OVER, MISSED, "passed over by protected mailboxes"},
 };
 enum { WAYS = sizeof ways / sizeof ways[0] };
 

@@ -89,13 +89,20 @@ void say_bytes(struct text *t, const uint8_t *bytes, int count)
 
 int is_register(uint32_t number)
 {
-    return number <= FROSTSORREL_REC || number == FROSTSORREL_GSR;
+    return number <= FROSTSORREL_REC || number == FROSTSORREL_GSR ||
+           (number >= FROSTSORREL_MASK_0 && number <= FROSTSORREL_PROTECTION);
 }
 
 /* A register whose bit n is mailbox n's. */
 static int is_flag_word(uint32_t number)
 {
-    return number <= FROSTSORREL_MBIM && number != FROSTSORREL_LAM && number != FROSTSORREL_GAM;
+    return (number <= FROSTSORREL_MBIM && number != FROSTSORREL_LAM && number != FROSTSORREL_GAM) ||
+           number == FROSTSORREL_PROTECTION;
+}
+
+static int is_mask_word(uint32_t number)
+{
+    return number >= FROSTSORREL_MASK_0 && number <= FROSTSORREL_MASK_31;
 }
 
 static int is_interrupt_word(uint32_t number)
@@ -331,6 +338,7 @@ void say_made(struct text *t, const struct made *m, const uint8_t *before, const
         "dropped by the reset: mailbox %d, the request of step %d",
         "NOT HEARD: ",
         "NOT TAKEN: ",
+        "PASSED OVER: every mailbox that matches it is protected and holds a frame",
     };
 
     text_add(t, words[m->entry], m->mailbox, m->since);
@@ -439,7 +447,7 @@ static void say_register_change(struct text *t, uint32_t number, uint32_t old, u
         say_slot(t, old);
         text_add(t, " ->");
         say_slot(t, new);
-    } else if (number >= FROSTSORREL_TSC) {
+    } else if (number >= FROSTSORREL_TSC && !is_mask_word(number)) {
         say_numbers(t, " %lu -> %lu", old, new);
     } else {
         say_numbers(t, " 0x%lX -> 0x%lX", old, new);
@@ -455,8 +463,12 @@ void say_change(struct text *t, const uint8_t *list, size_t entry)
 
     if (word < FIRST_REGISTER)
         say_mailbox_change(t, word, old, new);
-    else
+    else if (word < FIRST_MASK)
         say_register_change(t, word - FIRST_REGISTER, old, new);
+    else if (word < FROSTSORREL_IMAGE_WORDS - 1)
+        say_register_change(t, word - FIRST_MASK + FROSTSORREL_MASK_0, old, new);
+    else
+        text_add(t, "profile: %s -> %s", frostsorrel_profile_name(old), frostsorrel_profile_name(new));
 }
 
 void say_contents(struct text *t, const uint8_t *list, size_t entry)
@@ -471,13 +483,15 @@ const char *state_of(const uint8_t *image)
     return frostsorrel_mode_name(frostsorrel_register_word(image, FROSTSORREL_WORD_MODE));
 }
 
+/* GSR has it too, but an eCAN has no GSR. */
 const char *error_state(const uint8_t *image)
 {
-    uint32_t gsr = frostsorrel_read_value(frostsorrel_read(image, FROSTSORREL_IMAGE_BYTES, FROSTSORREL_GSR));
+    uint32_t tec = frostsorrel_register_word(image, FROSTSORREL_TEC);
+    uint32_t rec = frostsorrel_register_word(image, FROSTSORREL_REC), worse = tec > rec ? tec : rec;
 
-    if (gsr & FROSTSORREL_GSR_BO)
+    if (tec == FROSTSORREL_BUS_OFF_TEC)
         return "bus off";
-    if (gsr & FROSTSORREL_GSR_EP)
+    if (worse > FROSTSORREL_PASSIVE_ABOVE)
         return "passive";
-    return gsr & FROSTSORREL_GSR_EW ? "warning" : "active";
+    return worse > FROSTSORREL_WARNING_ABOVE ? "warning" : "active";
 }

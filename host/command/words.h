@@ -37,8 +37,8 @@ void say_line(struct text *t, const uint8_t *before, uint64_t answer, const uint
  */
 void say_line_detail(struct text *t, const uint8_t *before, const uint8_t *event, const uint8_t *list, size_t line);
 
-/* The register words stand behind the four of each mailbox, counted from the first byte of an image. */
-enum { FIRST_REGISTER = 4 * FROSTSORREL_MAILBOXES };
+/* The register words stand behind the four of each mailbox, counted from the first byte of an image, then the masks. */
+enum { FIRST_REGISTER = 4 * FROSTSORREL_MAILBOXES, FIRST_MASK = FIRST_REGISTER + 32 };
 
 /*
  * How a word changed, by an entry of frostsorrel_compare's list: "RML: +5", "mailbox 5 word 1: DLC 4 -> 3",
@@ -49,7 +49,7 @@ void say_change(struct text *t, const uint8_t *list, size_t entry);
 /* The same in numbers: "0x00000000 -> 0x00000020". */
 void say_contents(struct text *t, const uint8_t *list, size_t entry);
 
-/* Has a register this number? It may be one that can only be read. */
+/* Has a register this number? It may be one that can only be read, or one that only an eCAN takes. */
 int is_register(uint32_t number);
 
 /* "0x718", "ext 0x1234567": what word 0 of a mailbox, or a frame's value, has as identifier. */
@@ -76,7 +76,7 @@ void say_interrupts(struct text *t, const char *sign, uint32_t bits);
 /* "normal", "configuration", "sleep", "suspend", or "bus off", which stands beside the modes here. */
 const char *state_of(const uint8_t *image);
 
-/* "active", "warning", "passive" or "bus off": where TEC and REC stand, from GSR. */
+/* "active", "warning", "passive" or "bus off": where TEC and REC stand. */
 const char *error_state(const uint8_t *image);
 
 #endif
