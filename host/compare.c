@@ -3,7 +3,8 @@
  *
  * Each step draws an image and an event, hands both to both, and compares the answers and every byte,
  * those around the image too. The images: what a run from fresh has reached; good ones built word by
- * word, and what a few events make of them; either with one clause broken; any bytes; other lengths.
+ * word, and what a few events make of them; either with one clause broken; eCANs that hold and protect much; any bytes;
+ * other lengths.
  * Registers are read and models made fresh along the way, and pairs of images compared: equal ones, such
  * that differ in one word or in nearly all, two of a run, bad ones on either side, with too little room for
  * the list, just enough, and more. Frames are explained, most of them such that a mailbox matches or just misses,
@@ -13,8 +14,10 @@
  * A line before the sum says how often outcome 3 was taken, and how often by a model that was passive before it,
  * since the two count TEC differently, and how often only REC made it so. Another says how many frames with a DLC of
  * 9 to 15 were stored, data and remote ones, and how many were refused for nothing but a DLC above 15. A third says how
- * many starts without MTOS took a mailbox of the lower and of the upper half, and how many found nothing to send. The
- * last ones say what the explanations and the streams have met.
+ * many starts without MTOS took a mailbox of the lower and of the upper half, and how many found nothing to send. Then
+ * come those of the eCAN: where its frames landed, what mailbox 31 did, which registers were refused in which profile, and
+ * that both profiles were made fresh, reset, read and compared. The last ones say what the explanations and the streams
+ * have met.
  */
 #include <stdlib.h>
 
@@ -97,13 +100,19 @@ static int try_simpler_word(struct trial *t, size_t at, const uint8_t *fresh)
     return changed;
 }
 
+/* What is shown of an image is beside a fresh one of its profile. */
+static void put_fresh_like(uint8_t *fresh, const uint8_t *image, size_t image_len)
+{
+    put_fresh_of(fresh, image_len == BYTES && word_of(image, PROFILE) == ECAN ? ECAN : CAN_B);
+}
+
 static void shrink(struct trial *t)
 {
     static const uint8_t zero;
     uint8_t fresh[BYTES];
     int changed = 1;
 
-    put_fresh(fresh);
+    put_fresh_like(fresh, t->image, t->image_len);
     while (changed) {
         changed = 0;
         for (size_t i = 0; t->image_len == BYTES && i < BYTES; i += 4)
@@ -133,9 +142,11 @@ static void print_trial(const uint8_t *image, size_t image_len, const uint8_t *e
     for (size_t i = 0; i < event_len; i++)
         printf(" %02X", event[i]);
     printf("\n");
-    put_fresh(fresh);
+    put_fresh_like(fresh, image, image_len);
     if (image_len == BYTES)
         print_words("image, and fresh", image, fresh);
+    if (image_len == BYTES)
+        printf("    profile %lu\n", (unsigned long)word_of(image, PROFILE));
 }
 
 static void show(struct trial t)
@@ -231,7 +242,7 @@ enum { TOOK_LOW, TOOK_HIGH, TOOK_NONE };
 
 static struct tally starts[] = {
     [TOOK_LOW] = {"without MTOS", "took one of mailboxes 0 to 15", 0},
-    [TOOK_HIGH] = {"without MTOS", "took one of 16 to 30", 0},
+    [TOOK_HIGH] = {"without MTOS", "took one of 16 to 31", 0},
     [TOOK_NONE] = {"without MTOS", "found nothing", 0},
 };
 #define STARTS (sizeof starts / sizeof starts[0])
@@ -251,35 +262,272 @@ static void count_start(const struct trial *t, uint64_t answer)
     starts[n == FROSTSORREL_NO_MAILBOX ? TOOK_NONE : n < FROSTSORREL_MAILBOXES / 2 ? TOOK_LOW : TOOK_HIGH].times++;
 }
 
+/* ---- the eCAN, and what the CAN-B does not take of it */
+
+enum own_met {
+    PASSED_BY_ALL, PASSED_REMOTE, PASSED_THEN_LOWER, PASSED_THEN_OVERWROTE, PASSED_THEN_REPLY, PASSED_THEN_SILENT,
+    NOT_PASSED_EMPTY, NOT_PASSED_OPEN, NOT_PASSED_TRANSMITS, NOT_PASSED_IN_CAN_B,
+    STORED_BY_OWN_MASK, STORED_AT_31, STORED_AT_0,
+    STARTED_31, SENT_31, FAILED_31, ABORTED_31, REPLIED_31, BUSY_31, CDR_31, TRS_31, MD_31,
+    WROTE_MASK, WROTE_PROTECTION, MASK_BITS, OWN_IN_CAN_B, SHARED_IN_ECAN, OWN_ASLEEP, UNKNOWN_97,
+    RESET_ECAN, RESET_CLEARED,
+    OLD_IMAGE, BAD_PROFILE, BAD_MASK, SLOT_31_IN_CAN_B, SLOT_33
+};
+
+static struct tally own_tallies[] = {
+    [PASSED_BY_ALL] = {"frames passed over", "by all that match", 0},
+    [PASSED_REMOTE] = {"frames passed over", "of these remote", 0},
+    [PASSED_THEN_LOWER] = {"frames passed over", "and stored lower", 0},
+    [PASSED_THEN_OVERWROTE] = {"frames passed over", "and stored lower over another", 0},
+    [PASSED_THEN_REPLY] = {"frames passed over", "and asked for a reply lower", 0},
+    [PASSED_THEN_SILENT] = {"frames passed over", "and stopped at RFH 0 lower", 0},
+    [NOT_PASSED_EMPTY] = {"frames not passed over", "protected, but nothing held", 0},
+    [NOT_PASSED_OPEN] = {"frames not passed over", "held, but not protected", 0},
+    [NOT_PASSED_TRANSMITS] = {"frames not passed over", "transmits, all bits up", 0},
+    [NOT_PASSED_IN_CAN_B] = {"frames not passed over", "all bits up in a CAN-B", 0},
+    [STORED_BY_OWN_MASK] = {"stored in an eCAN", "under the own mask alone", 0},
+    [STORED_AT_31] = {"stored in an eCAN", "in mailbox 31", 0},
+    [STORED_AT_0] = {"stored in an eCAN", "in mailbox 0", 0},
+    [STARTED_31] = {"mailbox 31 of an eCAN", "starts", 0},
+    [SENT_31] = {"mailbox 31 of an eCAN", "sent", 0},
+    [FAILED_31] = {"mailbox 31 of an eCAN", "other outcomes", 0},
+    [ABORTED_31] = {"mailbox 31 of an eCAN", "requests cancelled", 0},
+    [REPLIED_31] = {"mailbox 31 of an eCAN", "replies", 0},
+    [BUSY_31] = {"mailbox 31 of an eCAN", "busy while it was sent", 0},
+    [CDR_31] = {"mailbox 31 of an eCAN", "CDR set", 0},
+    [TRS_31] = {"mailbox 31 of an eCAN", "TRS set", 0},
+    [MD_31] = {"mailbox 31 of an eCAN", "turned round", 0},
+    [WROTE_MASK] = {"registers 64 to 96", "masks written", 0},
+    [WROTE_PROTECTION] = {"registers 64 to 96", "protections written", 0},
+    [MASK_BITS] = {"registers 64 to 96", "masks refused for bits 30, 29", 0},
+    [OWN_IN_CAN_B] = {"registers 64 to 96", "refused in a CAN-B", 0},
+    [SHARED_IN_ECAN] = {"registers 64 to 96", "LAM and GAM refused in an eCAN", 0},
+    [OWN_ASLEEP] = {"registers 64 to 96", "refused asleep", 0},
+    [UNKNOWN_97] = {"registers 64 to 96", "63 and 97 unknown", 0},
+    [RESET_ECAN] = {"resets of an eCAN", "taken", 0},
+    [RESET_CLEARED] = {"resets of an eCAN", "that cleared masks and protection", 0},
+    [OLD_IMAGE] = {"images refused", "of 640 bytes", 0},
+    [BAD_PROFILE] = {"images refused", "for the profile", 0},
+    [BAD_MASK] = {"images refused", "for a mask", 0},
+    [SLOT_31_IN_CAN_B] = {"images refused", "slot 31 in a CAN-B", 0},
+    [SLOT_33] = {"images refused", "slot 33 or above", 0},
+};
+#define OWN_TALLIES (sizeof own_tallies / sizeof own_tallies[0])
+
+static void own_met(enum own_met what, int holds)
+{
+    own_tallies[what].times += holds != 0;
+}
+
+static int is_ecan(const uint8_t *image)
+{
+    return word_of(image, PROFILE) == ECAN;
+}
+
+static int has(const uint8_t *image, int word, uint32_t n)
+{
+    return n < FROSTSORREL_MAILBOXES && word_of(image, word) >> n & 1;
+}
+
+/* Could protection pass a frame over at this mailbox, but that it transmits, or that this is a CAN-B? */
+static int has_guard(const uint8_t *image, uint32_t n)
+{
+    return has(image, PROTECTION, n) && has(image, RMP, n);
+}
+
+/* The explanation of the frame by the reference: whether a line says protected, and where the search ended. */
+static int is_passed_over(const struct trial *t, uint32_t *stop)
+{
+    uint8_t list[FROSTSORREL_EXPLANATION_BYTES];
+    uint64_t answer = reference_explain(t->image, t->image_len, t->event, t->event_len, list, sizeof list);
+    int passed = 0;
+
+    *stop = FROSTSORREL_NO_MAILBOX;
+    for (size_t i = 0; i < frostsorrel_answer_count(answer); i++) {
+        passed |= frostsorrel_line_reason(list, i) == FROSTSORREL_PROTECTED;
+        if (frostsorrel_line_reason(list, i) == FROSTSORREL_MATCHED)
+            *stop = frostsorrel_line_mailbox(list, i);
+    }
+    return passed;
+}
+
+static void count_passed_over(const struct trial *t, uint32_t stop)
+{
+    int stores = has(t->image, MD, stop), nowhere = stop == FROSTSORREL_NO_MAILBOX;
+    int replies = !nowhere && !stores && word_of(t->image, MAILBOX((int)stop, 0)) & RFH;
+
+    own_met(PASSED_BY_ALL, nowhere);
+    own_met(PASSED_REMOTE, nowhere && frostsorrel_event_value(t->event) & FROSTSORREL_FRAME_RTR);
+    own_met(PASSED_THEN_LOWER, stores);
+    own_met(PASSED_THEN_OVERWROTE, stores && has(t->image, RMP, stop));
+    own_met(PASSED_THEN_REPLY, replies);
+    own_met(PASSED_THEN_SILENT, !nowhere && !stores && !replies);
+}
+
+/* Of a frame that stopped at this mailbox. */
+static void count_stop(const struct trial *t, uint32_t n)
+{
+    uint32_t own = word_of(t->image, MAILBOX((int)n, 0)), frame = frostsorrel_event_value(t->event);
+    int stores = has(t->image, MD, n), ecan = is_ecan(t->image);
+
+    own_met(NOT_PASSED_EMPTY, ecan && stores && has(t->image, PROTECTION, n) && !has(t->image, RMP, n));
+    own_met(NOT_PASSED_OPEN, ecan && stores && !has(t->image, PROTECTION, n) && has(t->image, RMP, n));
+    own_met(NOT_PASSED_TRANSMITS, ecan && !stores && has_guard(t->image, n));
+    own_met(NOT_PASSED_IN_CAN_B, !ecan && stores && has_guard(t->image, n));
+    own_met(STORED_BY_OWN_MASK, ecan && stores && own & MASKED && (own ^ frame) & FROSTSORREL_IDE);
+    own_met(STORED_AT_31, ecan && stores && n == 31);
+    own_met(STORED_AT_0, ecan && stores && n == 0);
+    own_met(REPLIED_31, !stores && n == 31 && own & RFH);
+}
+
+static void count_frame(const struct trial *t)
+{
+    uint32_t stop;
+    int passed = is_passed_over(t, &stop);
+
+    if (passed)
+        count_passed_over(t, stop);
+    if (stop < FROSTSORREL_MAILBOXES)
+        count_stop(t, stop);
+}
+
+/* Register writes that were taken, in an eCAN. */
+static void count_write(const struct trial *t)
+{
+    uint32_t number = t->event[1], value = frostsorrel_event_value(t->event);
+    int is_31 = value >> 31 != 0;
+
+    own_met(WROTE_MASK, number >= FROSTSORREL_MASK_0 && number <= FROSTSORREL_MASK_31);
+    own_met(WROTE_PROTECTION, number == FROSTSORREL_PROTECTION);
+    own_met(CDR_31, number == FROSTSORREL_CDR && is_31);
+    own_met(TRS_31, number == FROSTSORREL_TRS && is_31 && !has(t->image, MD, 31) && !has(t->image, TRS, 31));
+    own_met(ABORTED_31, number == FROSTSORREL_TRR && is_31 && has(t->image, TRS, 31));
+    own_met(MD_31, number == FROSTSORREL_MD && is_31 != has(t->image, MD, 31));
+}
+
+static int has_words_of_ecan(const uint8_t *image)
+{
+    static const uint8_t zeros[4 * FROSTSORREL_MAILBOXES + 4];
+
+    return memcmp(image + 4 * MASKS, zeros, sizeof zeros) != 0;
+}
+
+static void count_taken_by_ecan(const struct trial *t, uint64_t answer)
+{
+    uint32_t n = frostsorrel_answer_mailbox(answer);
+
+    switch (t->event[0]) {
+    case FROSTSORREL_WRITE_REGISTER: count_write(t); break;
+    case FROSTSORREL_START: own_met(STARTED_31, n == 31); break;
+    case FROSTSORREL_OUTCOME: own_met(t->event[1] == SENT ? SENT_31 : FAILED_31, n == 31); break;
+    case FROSTSORREL_RESET:
+        own_met(RESET_ECAN, 1);
+        own_met(RESET_CLEARED, has_words_of_ecan(t->image));
+        break;
+    default: break;
+    }
+}
+
+static void count_refused_write(const struct trial *t, uint32_t refusal)
+{
+    uint32_t number = t->event[1], stray = frostsorrel_event_value(t->event) & MASK_SPARE;
+    int own = number >= FROSTSORREL_MASK_0 && number <= FROSTSORREL_PROTECTION;
+    int locked = refusal == FROSTSORREL_LOCKED;
+
+    own_met(MASK_BITS, own && number < FROSTSORREL_PROTECTION && refusal == FROSTSORREL_NOT_ALLOWED && stray);
+    own_met(OWN_IN_CAN_B, own && locked);
+    own_met(SHARED_IN_ECAN, (number == FROSTSORREL_LAM || number == FROSTSORREL_GAM) && locked);
+    own_met(OWN_ASLEEP, own && refusal == FROSTSORREL_ASLEEP);
+    own_met(UNKNOWN_97, refusal == FROSTSORREL_UNKNOWN && (number == 63 || number == 97));
+}
+
+/* With the word as it would be in a good image, refusal 1 would have no reason. */
+static int is_refused_for(struct trial t, int word, uint32_t better)
+{
+    put(t.image, word, better);
+    return frostsorrel_answer_refusal(result_of(&t, reference_step).answer) != FROSTSORREL_BAD_IMAGE;
+}
+
+static void count_bad_image(const struct trial *t)
+{
+    uint32_t slot, profile;
+
+    own_met(OLD_IMAGE, t->image_len == 640);
+    if (t->image_len != BYTES)
+        return;
+    slot = word_of(t->image, SLOT);
+    profile = word_of(t->image, PROFILE);
+    own_met(BAD_PROFILE, profile > ECAN && is_refused_for(*t, PROFILE, ECAN));
+    own_met(SLOT_31_IN_CAN_B, slot == 31 && profile == CAN_B && is_refused_for(*t, SLOT, EMPTY_SLOT));
+    own_met(SLOT_33, slot > EMPTY_SLOT && is_refused_for(*t, SLOT, EMPTY_SLOT));
+    for (int n = 0; n < FROSTSORREL_MAILBOXES; n++)
+        own_met(BAD_MASK, word_of(t->image, MASK(n)) & MASK_SPARE && is_refused_for(*t, MASK(n), 0));
+}
+
+static void count_ecan(const struct trial *t, uint64_t answer)
+{
+    uint32_t refusal = frostsorrel_answer_refusal(answer);
+
+    if (refusal == FROSTSORREL_BAD_IMAGE) {
+        count_bad_image(t);
+        return;
+    }
+    if (t->event_len != EVENT_BYTES)
+        return;
+    own_met(BUSY_31, refusal == FROSTSORREL_BUSY && word_of(t->image, SLOT) == 31);
+    if (refusal == FROSTSORREL_ACCEPTED && is_ecan(t->image))
+        count_taken_by_ecan(t, answer);
+    if (refusal == FROSTSORREL_ACCEPTED && t->event[0] == FROSTSORREL_FRAME)
+        count_frame(t);
+    if (refusal != FROSTSORREL_ACCEPTED && t->event[0] == FROSTSORREL_WRITE_REGISTER)
+        count_refused_write(t, refusal);
+}
+
 /* ---- what is tried */
 
-static uint8_t reached[BYTES]; /* by a run from a fresh model */
+static uint8_t reached[BYTES]; /* by a run from a fresh model, of one profile after the other */
 static uint8_t built[BYTES];   /* word by word, then some events */
 
-enum source { REACHED, BUILT, REACHED_SPOILED, BUILT_SPOILED, ANY_BYTES, OTHER_LENGTH };
+enum source { REACHED, BUILT, REACHED_SPOILED, BUILT_SPOILED, OVERLOADED, ANY_BYTES, OTHER_LENGTH };
 
 static enum source draw_source(void)
 {
     uint32_t n = draw(100);
 
-    return n < 35 ? REACHED : n < 75 ? BUILT : n < 83 ? REACHED_SPOILED : n < 93 ? BUILT_SPOILED
-           : n < 96 ? ANY_BYTES : OTHER_LENGTH;
+    return n < 32 ? REACHED : n < 67 ? BUILT : n < 74 ? REACHED_SPOILED : n < 82 ? BUILT_SPOILED
+           : n < 94 ? OVERLOADED : n < 97 ? ANY_BYTES : OTHER_LENGTH;
 }
 
 static size_t other_length(void)
 {
-    static const size_t lengths[] = {0, 1, 4, 512, BYTES - 1, BYTES + 1, LONGEST_IMAGE};
+    static const size_t lengths[] = {0, 1, 4, 512, 640, BYTES - 4, BYTES - 1, BYTES + 1, LONGEST_IMAGE};
 
     return draw(2) ? draw(LONGEST_IMAGE + 1) : lengths[draw(sizeof lengths / sizeof lengths[0])];
+}
+
+static void draw_image(uint8_t *image, enum source source)
+{
+    switch (source) {
+    case ANY_BYTES: break;
+    case OVERLOADED: overloaded_image(image); break;
+    case BUILT: case BUILT_SPOILED: memcpy(image, built, BYTES); break;
+    default: memcpy(image, reached, BYTES);
+    }
+}
+
+static size_t draw_event_for(uint8_t *event, const uint8_t *image, enum source source)
+{
+    if (source == OVERLOADED && draw(2))
+        return frame_near_a_mailbox(event, image);
+    return (source == REACHED ? likely_event : varied_event)(event, image);
 }
 
 static void draw_trial(struct trial *t, enum source source)
 {
     draw_bytes(t->image, LONGEST_IMAGE);
     t->image_len = source == OTHER_LENGTH ? other_length() : BYTES;
-    if (source != ANY_BYTES)
-        memcpy(t->image, source == BUILT || source == BUILT_SPOILED ? built : reached, BYTES);
-    t->event_len = (source == REACHED ? likely_event : varied_event)(t->event, t->image);
+    draw_image(t->image, source);
+    t->event_len = draw_event_for(t->event, t->image, source);
     if (source == REACHED_SPOILED || source == BUILT_SPOILED)
         spoil(t->image);
 }
@@ -287,8 +535,8 @@ static void draw_trial(struct trial *t, enum source source)
 /* One image goes on from fresh for long, the other is built anew again and again. */
 static void renew(void)
 {
-    if (draw(3000) == 0)
-        put_fresh(reached);
+    if (draw(1500) == 0)
+        put_fresh_of(reached, draw(PROFILES));
     if (draw(6) == 0)
         good_image(built);
 }
@@ -309,16 +557,66 @@ static void compare_step(unsigned long number)
     count_unacknowledged(&t, ours.answer);
     count_dlc(&t, ours.answer);
     count_start(&t, ours.answer);
+    count_ecan(&t, ours.answer);
     if (source == REACHED)
         memcpy(reached, theirs.arena + GUARD, BYTES);
     if (source == BUILT)
         memcpy(built, theirs.arena + GUARD, BYTES);
 }
 
+/* ---- reads, and fresh models */
+
+enum read_met { READ_GSR, GSR_IN_ECAN, GSR_ASLEEP, OWN_OF_CAN_B, OWN_OF_ECAN, OWN_READ_ASLEEP, MADE_CAN_B, MADE_ECAN, NOT_MADE };
+
+static struct tally read_tallies[] = {
+    [READ_GSR] = {"read", "GSR of a CAN-B", 0},
+    [GSR_IN_ECAN] = {"read", "GSR of an eCAN, refused", 0},
+    [GSR_ASLEEP] = {"read", "of these asleep", 0},
+    [OWN_OF_CAN_B] = {"read", "64 to 96 of a CAN-B", 0},
+    [OWN_OF_ECAN] = {"read", "64 to 96 of an eCAN", 0},
+    [OWN_READ_ASLEEP] = {"read", "of these asleep", 0},
+    [MADE_CAN_B] = {"fresh", "CAN-Bs", 0},
+    [MADE_ECAN] = {"fresh", "eCANs", 0},
+    [NOT_MADE] = {"fresh", "refused for the profile", 0},
+};
+#define READ_TALLIES (sizeof read_tallies / sizeof read_tallies[0])
+
+static void read_met(enum read_met what, int holds)
+{
+    read_tallies[what].times += holds != 0;
+}
+
+/* Of an image that is good: refusal 2 at 22 says so. */
+static void count_read(const struct trial *t, uint32_t name)
+{
+    int own = name >= FROSTSORREL_MASK_0 && name <= FROSTSORREL_PROTECTION, gsr = name == FROSTSORREL_GSR, asleep;
+
+    if (frostsorrel_read_refusal(reference_read(t->image, t->image_len, 22)) != FROSTSORREL_UNKNOWN)
+        return;
+    asleep = word_of(t->image, MODE) == SLEEP;
+    read_met(READ_GSR, gsr && !is_ecan(t->image));
+    read_met(GSR_IN_ECAN, gsr && is_ecan(t->image));
+    read_met(GSR_ASLEEP, gsr && is_ecan(t->image) && asleep);
+    read_met(OWN_OF_CAN_B, own && !is_ecan(t->image));
+    read_met(OWN_OF_ECAN, own && is_ecan(t->image));
+    read_met(OWN_READ_ASLEEP, own && asleep);
+}
+
+/* A register, one beside those that are there, or any number. */
+static uint32_t draw_number(void)
+{
+    switch (draw(8)) {
+    case 0: return draw(0xFFFFFFFF);
+    case 1: return FROSTSORREL_GSR;
+    case 2: case 3: return FROSTSORREL_MASK_0 - 2 + draw(37);
+    default: return draw(34);
+    }
+}
+
 static void compare_read(unsigned long number)
 {
     struct trial t;
-    uint32_t name = draw(8) ? draw(34) : draw(0xFFFFFFFF);
+    uint32_t name = draw_number();
     uint64_t ours, theirs;
 
     draw_trial(&t, draw_source());
@@ -326,18 +624,24 @@ static void compare_read(unsigned long number)
     theirs = reference_read(t.image, t.image_len, name);
     check(ours == theirs, "step %lu: register %lu reads 0x%llX, in the reference 0x%llX", number,
           (unsigned long)name, (unsigned long long)ours, (unsigned long long)theirs);
+    count_read(&t, name);
 }
 
 static void compare_fresh(unsigned long number)
 {
     struct result ours, theirs;
-    size_t len = draw(2) ? BYTES : other_length();
+    size_t len = draw(4) ? BYTES : other_length();
+    uint32_t profile = draw(4) ? draw(PROFILES + 1) : draw(0xFFFFFFFF);
 
     draw_bytes(ours.arena, ARENA);
     memcpy(theirs.arena, ours.arena, ARENA);
-    ours.answer = frostsorrel_fresh(ours.arena + GUARD, len);
-    theirs.answer = reference_fresh(theirs.arena + GUARD, len);
-    check(equal(&ours, &theirs), "step %lu: fresh of %lu bytes", number, (unsigned long)len);
+    ours.answer = frostsorrel_fresh(ours.arena + GUARD, len, profile);
+    theirs.answer = reference_fresh(theirs.arena + GUARD, len, profile);
+    check(equal(&ours, &theirs), "step %lu: fresh of %lu bytes, profile %lu", number, (unsigned long)len,
+          (unsigned long)profile);
+    read_met(MADE_CAN_B, len == BYTES && profile == CAN_B);
+    read_met(MADE_ECAN, len == BYTES && profile == ECAN);
+    read_met(NOT_MADE, len == BYTES && profile > ECAN);
 }
 
 /* ---- calls that are lent two things to read, and bytes for a list */
@@ -507,7 +811,7 @@ static void show_pair(struct pair p)
 
 static int is_good(const uint8_t *image)
 {
-    return frostsorrel_read_refusal(reference_read(image, BYTES, FROSTSORREL_GSR)) == 0;
+    return frostsorrel_read_refusal(reference_read(image, BYTES, FROSTSORREL_MC)) == 0;
 }
 
 /* Another content of a word of a good image, if one of those tried leaves it good. */
@@ -530,7 +834,7 @@ static void vary_some(uint8_t *image, uint32_t count)
 }
 
 /*
- * As unlike as can be, or nearly. Two good images never differ in all 160 words, and 155 are the most: words
+ * As unlike as can be, or nearly. Two good images never differ in all 194 words, and 189 are the most: words
  * 28 to 31 are always 0, and TRR, mode and recovery count cannot all differ. TRR needs a filled slot, a
  * recovery count needs bus off; no image has both, and each of them is in normal mode.
  */
@@ -738,7 +1042,7 @@ static uint64_t compared_lines(const uint8_t *list, uint64_t count)
         uint32_t reason = frostsorrel_line_reason(list, i);
 
         compared += reason == FROSTSORREL_IDE_DIFFERS || reason == FROSTSORREL_BIT_DIFFERS ||
-                    reason == FROSTSORREL_MATCHED;
+                    reason == FROSTSORREL_MATCHED || reason == FROSTSORREL_PROTECTED;
     }
     return compared;
 }
@@ -795,12 +1099,13 @@ static int agrees_with_step(const struct pair *p, const uint8_t *list, uint64_t 
 /* ---- what explanations have met: all of it, in a long run */
 
 enum met {
-    A_DISABLED, A_TRANSMITS, AN_IDE, A_BIT, A_MATCHED, A_NOT_HEARD, /* in the order of the reasons */
+    A_DISABLED, A_TRANSMITS, AN_IDE, A_BIT, A_MATCHED, A_NOT_HEARD, A_PROTECTED, /* in the order of the reasons */
     IN_CONFIGURATION, IN_SLEEP, IN_SLEEP_WUBA, IN_SUSPEND, IN_BUS_OFF,
     STANDARD_DATA, STANDARD_REMOTE, EXTENDED_DATA, EXTENDED_REMOTE, SLOT_FILLED,
     RECEIVES, REPLIES, SILENT, NOWHERE,
-    FREED_IDE, FREED_BIT, FREED_BY_LAM, LOW_NOT_COMPARED, BELOW_FREED, LOWER_TOO,
-    FIRST_OF_1_2, FIRST_OF_2_3, FIRST_OF_3_4,
+    FREED_IDE, FREED_BIT, FREED_BY_LAM, FREED_BY_OWN, LOW_NOT_COMPARED, BELOW_FREED, LOWER_TOO,
+    FIRST_OF_1_2, FIRST_OF_2_3, FIRST_OF_3_4, FIRST_OF_4_7,
+    HEARD_BY_ECAN, PAST_PROTECTED, ALL_PROTECTED,
     FITS, BYTE_MORE, BYTE_SHORT, NO_BYTE,
     REFUSED_LENGTH, REFUSED_IMAGE, REFUSED_BOTH, REFUSED_EVENT_LENGTH, REFUSED_OPERATION, REFUSED_FRAME
 };
@@ -812,6 +1117,7 @@ static struct tally tallies[] = {
     [A_BIT] = {"lines", "bit differs", 0},
     [A_MATCHED] = {"lines", "matched", 0},
     [A_NOT_HEARD] = {"lines", "not heard", 0},
+    [A_PROTECTED] = {"lines", "protected", 0},
     [IN_CONFIGURATION] = {"not heard", "in configuration", 0},
     [IN_SLEEP] = {"not heard", "asleep", 0},
     [IN_SLEEP_WUBA] = {"not heard", "asleep with WUBA", 0},
@@ -828,13 +1134,18 @@ static struct tally tallies[] = {
     [NOWHERE] = {"matched", "times none", 0},
     [FREED_IDE] = {"matched by a mask", "IDE differs", 0},
     [FREED_BIT] = {"matched by a mask", "bits differ", 0},
-    [FREED_BY_LAM] = {"matched by a mask", "in mailbox 31", 0},
+    [FREED_BY_LAM] = {"matched by a mask", "in mailbox 31 of a CAN-B", 0},
+    [FREED_BY_OWN] = {"matched by a mask", "in an eCAN", 0},
     [LOW_NOT_COMPARED] = {"matched by a mask", "have low bits that a standard frame has not", 0},
     [BELOW_FREED] = {"bits", "below one that is freed", 0},
     [LOWER_TOO] = {"bits", "above another", 0},
     [FIRST_OF_1_2] = {"first reasons", "disabled, and transmits", 0},
     [FIRST_OF_2_3] = {"first reasons", "transmits, and IDE differs", 0},
     [FIRST_OF_3_4] = {"first reasons", "IDE differs, and a bit", 0},
+    [FIRST_OF_4_7] = {"first reasons", "a bit, and protected", 0},
+    [HEARD_BY_ECAN] = {"eCANs", "that hear it", 0},
+    [PAST_PROTECTED] = {"eCANs", "matched past a protected mailbox", 0},
+    [ALL_PROTECTED] = {"eCANs", "all that match protected", 0},
     [FITS] = {"room", "just enough", 0},
     [BYTE_MORE] = {"room", "a byte more", 0},
     [BYTE_SHORT] = {"room", "a byte short", 0},
@@ -876,13 +1187,23 @@ static void count_line(const uint8_t *image, uint32_t frame, const uint8_t *list
 
     met(FREED_IDE, matched && ide);
     met(FREED_BIT, matched && bits);
-    met(FREED_BY_LAM, matched && (ide | bits) && n == 31);
+    met(FREED_BY_LAM, matched && (ide | bits) && n == 31 && !is_ecan(image));
+    met(FREED_BY_OWN, matched && (ide | bits) && is_ecan(image));
     met(LOW_NOT_COMPARED, matched && own & low);
     met(BELOW_FREED, differs && bits > 2 * bit - 1);
     met(LOWER_TOO, differs && bits & (bit - 1));
     met(FIRST_OF_1_2, reason == FROSTSORREL_DISABLED && faces_data);
     met(FIRST_OF_2_3, reason == FROSTSORREL_TRANSMITS && ide);
     met(FIRST_OF_3_4, reason == FROSTSORREL_IDE_DIFFERS && bits);
+    met(FIRST_OF_4_7, differs && is_ecan(image) && has(image, MD, n) && has_guard(image, n));
+}
+
+static int is_any_protected(const uint8_t *list, uint64_t count)
+{
+    for (size_t i = 0; i < count; i++)
+        if (frostsorrel_line_reason(list, i) == FROSTSORREL_PROTECTED)
+            return 1;
+    return 0;
 }
 
 static void count_search(const uint8_t *image, uint32_t frame, const uint8_t *list, uint64_t count)
@@ -897,6 +1218,9 @@ static void count_search(const uint8_t *image, uint32_t frame, const uint8_t *li
     met(REPLIES, matched && !receives && !is_silent(image, stop));
     met(SILENT, is_silent(image, stop));
     met(NOWHERE, !matched);
+    met(HEARD_BY_ECAN, is_ecan(image));
+    met(PAST_PROTECTED, matched && is_any_protected(list, count));
+    met(ALL_PROTECTED, !matched && is_any_protected(list, count));
     for (size_t i = 0; i < count; i++)
         count_line(image, frame, list, i);
 }
@@ -989,6 +1313,8 @@ int main(int argc, char **argv)
     check_unacknowledged(steps);
     check_dlc(steps);
     check_tallies("start", starts, STARTS, steps);
+    check_tallies("eCAN", own_tallies, OWN_TALLIES, steps);
+    check_tallies("both profiles", read_tallies, READ_TALLIES, steps);
     check_tallies("explain", tallies, TALLIES, steps);
     check_streams(steps);
     snprintf(name, sizeof name, "host compare, %lu steps, seed %lu", steps, seed);

@@ -226,12 +226,23 @@ static struct event any_own_write(const uint8_t *image)
     return write_register(MASK((int)draw(32)), any_mask());
 }
 
+/* Turns mailbox 31 round, holds it back, asks for it or cancels that: what an eCAN alone does. */
+static struct event any_write_at_31(const uint8_t *image)
+{
+    static const int words[] = {MD, CDR, TRS, TRR};
+    int word = ONE_OF(words);
+
+    return write_register(word, word == MD || word == CDR ? word_of(image, word) ^ BIT_31 : BIT_31);
+}
+
 static struct event any_register_write(const uint8_t *image)
 {
     int word = MC + (int)draw(20), refused = one_in(4);
 
     if (one_in(is_ecan(image) ? 5 : 40))
         return any_own_write(image);
+    if (is_ecan(image) && one_in(5))
+        return any_write_at_31(image);
     switch (word) {
     case RML: case RFP: return write_register(refused ? word : TRS, any_flags());
     case MC: return write_register(MC, any_flags() | any_flags());
@@ -276,11 +287,59 @@ static struct event any_setup(const uint8_t *image)
     }
 }
 
+/* An enabled one, most of the time; the one that the search comes to last is oftener tried. */
+static int likely_mailbox(const uint8_t *image)
+{
+    uint32_t enabled = word_of(image, MC), last = is_ecan(image) ? 0 : 31, n = one_in(4) ? last : draw(32);
+
+    for (int tries = 0; tries < 4 && !(enabled >> n & 1); tries++)
+        n = draw(32);
+    return (int)n;
+}
+
+static uint32_t mask_of(const uint8_t *image, int n)
+{
+    return word_of(image, is_ecan(image) ? MASK(n) : n == 31 ? LAM : GAM);
+}
+
+/* Identifier and IDE as one of the mailboxes has them, with some bits turned round. */
+static uint32_t near_identifier(const uint8_t *image)
+{
+    int n = likely_mailbox(image);
+    uint32_t own = word_of(image, MAILBOX(n, 0)), freed = mask_of(image, n);
+    uint32_t bits = 0;
+
+    switch (draw(6)) {
+    case 0: break;
+    case 1: bits = 1u << draw(29); break;
+    case 2: bits = any_flags(); break;
+    case 3: bits = FROSTSORREL_IDE; break;
+    case 4: bits = freed; break;
+    default: bits = freed ^ 1u << draw(29);
+    }
+    own = (own ^ bits) & (FROSTSORREL_IDE | FROSTSORREL_IDENTIFIER_BITS);
+    return own & FROSTSORREL_IDE ? own : STANDARD(own >> 18);
+}
+
+static struct event near_frame(const uint8_t *image)
+{
+    struct event e = any_frame();
+
+    put(e.bytes, 1, near_identifier(image) | (word_of(e.bytes, 1) & FROSTSORREL_FRAME_RTR));
+    return e;
+}
+
+/* One in two of an eCAN is one that a mailbox matches or just misses: with any other, few are passed over. */
+static struct event some_frame(const uint8_t *image)
+{
+    return is_ecan(image) && one_in(2) ? near_frame(image) : any_frame();
+}
+
 static struct event any_operation(const uint8_t *image)
 {
     uint32_t kind = draw(200);
 
-    if (kind < 60) return any_frame();
+    if (kind < 60) return some_frame(image);
     if (kind < 110) return any_register_write(image);
     if (kind < 125) return write_register(TRS, any_flags());
     if (kind < 160) return start();
@@ -332,17 +391,24 @@ static struct event next_event(const uint8_t *image)
     return any_operation(image);
 }
 
+/* A register, or a number beside those that are one. */
+static int edge_register(void)
+{
+    static const int edges[] = {20, 22, 31, 32, 33, 63, 64, 95, 96, 97};
+
+    return one_in(2) ? ONE_OF(edges) : (int)draw(FROSTSORREL_PROTECTION + 2);
+}
+
 static struct event event_of_any_operation(const uint8_t *image)
 {
-    int word = MC + (int)draw(21);
 
     if (word_of(image, SLOT) != EMPTY_SLOT && one_in(3))
         return outcome((int)draw(5));
     switch (draw(16)) {
-    case 0: return write_register(one_in(4) ? MASKS + (int)draw(33) : word, edge_value());
+    case 0: return plain_event(FROSTSORREL_WRITE_REGISTER, edge_register(), 0, edge_value());
     case 1: return any_register_write(image);
     case 2: return one_in(8) ? bad_mailbox_write(image) : any_mailbox_write(image, (int)draw(4));
-    case 3: case 4: case 5: return one_in(16) ? bad_frame() : any_frame();
+    case 3: case 4: case 5: return one_in(16) ? bad_frame() : some_frame(image);
     case 6: case 7: return start();
     case 8: case 9: return outcome((int)draw(5));
     case 10: return receive_error(one_in(2) ? 1 : 8);
@@ -388,48 +454,6 @@ size_t likely_event(uint8_t *event, const uint8_t *image)
 size_t varied_event(uint8_t *event, const uint8_t *image)
 {
     return damaged_at_times(event, event_of_any_operation(image));
-}
-
-/* An enabled one, most of the time. */
-static int likely_mailbox(const uint8_t *image)
-{
-    uint32_t enabled = word_of(image, MC), n = one_in(4) ? 31 : draw(32);
-
-    for (int tries = 0; tries < 4 && !(enabled >> n & 1); tries++)
-        n = draw(32);
-    return (int)n;
-}
-
-static uint32_t mask_of(const uint8_t *image, int n)
-{
-    return word_of(image, is_ecan(image) ? MASK(n) : n == 31 ? LAM : GAM);
-}
-
-/* Identifier and IDE as one of the mailboxes has them, with some bits turned round. */
-static uint32_t near_identifier(const uint8_t *image)
-{
-    int n = likely_mailbox(image);
-    uint32_t own = word_of(image, MAILBOX(n, 0)), freed = mask_of(image, n);
-    uint32_t bits = 0;
-
-    switch (draw(6)) {
-    case 0: break;
-    case 1: bits = 1u << draw(29); break;
-    case 2: bits = any_flags(); break;
-    case 3: bits = FROSTSORREL_IDE; break;
-    case 4: bits = freed; break;
-    default: bits = freed ^ 1u << draw(29);
-    }
-    own = (own ^ bits) & (FROSTSORREL_IDE | FROSTSORREL_IDENTIFIER_BITS);
-    return own & FROSTSORREL_IDE ? own : STANDARD(own >> 18);
-}
-
-static struct event near_frame(const uint8_t *image)
-{
-    struct event e = any_frame();
-
-    put(e.bytes, 1, near_identifier(image) | (word_of(e.bytes, 1) & FROSTSORREL_FRAME_RTR));
-    return e;
 }
 
 size_t frame_near_a_mailbox(uint8_t *event, const uint8_t *image)
@@ -483,6 +507,19 @@ static void put_masks(uint8_t *image)
     put(image, PROTECTION, any_protection(image));
 }
 
+/* Much is enabled, held and protected, and many mailboxes share an identifier: frames go past several. */
+static void put_overload(uint8_t *image)
+{
+    uint32_t shared = any_identifier();
+
+    put(image, MC, word_of(image, MC) | any_word());
+    put(image, RMP, word_of(image, RMP) | any_word());
+    put(image, PROTECTION, word_of(image, PROTECTION) | any_word());
+    for (int n = 0; n < FROSTSORREL_MAILBOXES; n++)
+        if (one_in(2))
+            put(image, MAILBOX(n, 0), shared | (word_of(image, MAILBOX(n, 0)) & (MASKED | RFH)));
+}
+
 static void put_in_slot(uint8_t *image)
 {
     uint32_t n = is_ecan(image) && one_in(4) ? 31 : draw(31), bit = 1u << n;
@@ -531,6 +568,8 @@ void good_image_of(uint8_t *image, uint32_t profile)
     put_flags(image);
     put_numbers(image);
     put_masks(image);
+    if (is_ecan(image) && one_in(2))
+        put_overload(image);
     put(image, MODE, NORMAL_MODE);
     switch (draw(10)) {
     case 0: put(image, MODE, CONFIGURATION); return;
@@ -545,6 +584,26 @@ void good_image_of(uint8_t *image, uint32_t profile)
     default: return;
     }
     put(image, WAITING, 1 + draw(4)); /* with bus off or a filled slot, a mode may wait */
+}
+
+/* Mailbox 31 alone has a request. */
+static void put_request_at_31(uint8_t *image)
+{
+    put(image, MC, word_of(image, MC) | BIT_31);
+    put(image, MD, word_of(image, MD) & ~BIT_31);
+    put(image, TRS, BIT_31);
+    put(image, CDR, word_of(image, CDR) & ~BIT_31);
+}
+
+void overloaded_image(uint8_t *image)
+{
+    do
+        good_image_of(image, ECAN);
+    while (word_of(image, MODE) != NORMAL_MODE || word_of(image, SLOT) != EMPTY_SLOT ||
+           word_of(image, TEC) == BUS_OFF_TEC);
+    put_overload(image);
+    if (one_in(4))
+        put_request_at_31(image);
 }
 
 static void flip(uint8_t *image, int word, uint32_t bits)

@@ -38,6 +38,9 @@ size_t frame_near_a_mailbox(uint8_t *event, const uint8_t *image);
 void good_image(uint8_t *image);
 void good_image_of(uint8_t *image, uint32_t profile);
 
+/* One of an eCAN that hears frames: much of it is held and protected. In some, mailbox 31 alone is to be sent. */
+void overloaded_image(uint8_t *image);
+
 /* Breaks one clause of the rule for good images, most of the time. */
 void spoil(uint8_t *image);
 
