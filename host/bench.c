@@ -5,7 +5,7 @@
  * an image and a frame to explain; or traces that are fed in parts, where the time is that of an event. All of
  * it is drawn before the clock starts, and both sides get the same. A round lets each side go through the whole
  * stream; the best round counts. Answers, images, lists and texts must come out equal, so that no wrong work is
- * measured.
+ * measured. Runs are of a CAN-B, but for the streams that name the eCAN or its guards, which are protected mailboxes.
  *
  * In the end it says how many bytes of the stack each call of a stream takes.
  */
@@ -86,11 +86,21 @@ typedef size_t part_function(void);
 
 /* ---- the streams */
 
+static void can_b_image(uint8_t *image)
+{
+    good_image_of(image, CAN_B);
+}
+
+static void ecan_image(uint8_t *image)
+{
+    good_image_of(image, ECAN);
+}
+
 /* A good image on the bus, with nothing in the slot, and these mailboxes receiving. */
-static void on_bus(uint8_t *image, uint32_t receiving)
+static void on_bus(uint8_t *image, uint32_t profile, uint32_t receiving)
 {
     do
-        good_image(image);
+        good_image_of(image, profile);
     while (word_of(image, MODE) != NORMAL_MODE || word_of(image, SLOT) != EMPTY_SLOT ||
            word_of(image, TEC) == BUS_OFF_TEC);
     put(image, TEC, 0);
@@ -107,12 +117,33 @@ static size_t given(uint8_t *event, struct event e)
 }
 
 /* Identifiers come from small pools: with every mailbox in them, most searches would end at once. */
-static void receiving_image(uint8_t *image)
+static void seldom_matching(uint8_t *image)
 {
-    on_bus(image, 0xFFFFFF00);
     for (int n = 0; n < 31; n++)
         if (draw(8))
             put(image, MAILBOX(n, 0), STANDARD(0x400 + n) | (word_of(image, MAILBOX(n, 0)) & RFH));
+}
+
+static void receiving_image(uint8_t *image)
+{
+    on_bus(image, CAN_B, 0xFFFFFF00);
+    seldom_matching(image);
+}
+
+static void receiving_ecan(uint8_t *image)
+{
+    on_bus(image, ECAN, 0xFFFFFF00);
+    seldom_matching(image);
+}
+
+/* All that the frames of these pools come to first is held and protected; from 11 down nothing is. */
+static void guarded_image(uint8_t *image)
+{
+    on_bus(image, ECAN, 0xFFFFFF00);
+    put(image, RMP, 0xFFFFF000);
+    put(image, RML, 0);
+    put(image, RFP, 0);
+    put(image, PROTECTION, 0xFFFFF000);
 }
 
 static size_t frame(uint8_t *event, const uint8_t *image)
@@ -135,10 +166,25 @@ static size_t receiving_event(uint8_t *event, const uint8_t *image)
     }
 }
 
+/* The same, but the firmware takes what one mailbox holds, so that the others go on passing frames over. */
+static size_t guarded_event(uint8_t *event, const uint8_t *image)
+{
+    switch (draw(20)) {
+    case 0: return given(event, write_register(RMP, 1u << (8 + draw(24))));
+    case 1: return given(event, tick());
+    default: return frame(event, image);
+    }
+}
+
 /* All but mailbox 31 send; half of the images send by arbitration key. */
 static void sending_image(uint8_t *image)
 {
-    on_bus(image, 0x80000000);
+    on_bus(image, CAN_B, 0x80000000);
+}
+
+static void sending_ecan(uint8_t *image)
+{
+    on_bus(image, ECAN, 0x80000000);
 }
 
 static struct event sending_outcome(void)
@@ -221,14 +267,25 @@ static void draw_strangers(struct pairs *p)
     }
 }
 
-/* An image and a frame of the frame-heavy stream: most explanations are long. */
-static void draw_questions(struct pairs *p)
+/* Images of one kind, and a frame for each. */
+static void draw_frames_for(struct pairs *p, image_function *first)
 {
     p->second_len = EVENT_BYTES;
     for (size_t i = 0; i < PAIRS; i++) {
-        receiving_image(p->first[i]);
+        first(p->first[i]);
         frame(p->second[i], p->first[i]);
     }
+}
+
+/* Those of the frame-heavy stream: most explanations are long. */
+static void draw_questions(struct pairs *p)
+{
+    draw_frames_for(p, receiving_image);
+}
+
+static void draw_guarded_questions(struct pairs *p)
+{
+    draw_frames_for(p, guarded_image);
 }
 
 /* As a cable may bring them: one event at the least, four at the most. */
@@ -532,7 +589,7 @@ static void say_where(unsigned long rounds, unsigned long seed)
 int main(int argc, char **argv)
 {
     unsigned long rounds = argument(argc, argv, 1, 15), seed = argument(argc, argv, 2, 1);
-    double ratios[10], worst = 0; /* one for each stream */
+    double ratios[15], worst = 0; /* one for each stream */
 
     if (rounds == 0 || rounds > MOST_ROUNDS)
         rounds = MOST_ROUNDS;
@@ -540,7 +597,7 @@ int main(int argc, char **argv)
     say_where(rounds, seed);
     ratios[0] = measure("frame-heavy", receiving_image, receiving_event, rounds);
     ratios[1] = measure("sending", sending_image, sending_event, rounds);
-    ratios[2] = measure("mixed", good_image, likely_event, rounds);
+    ratios[2] = measure("mixed", can_b_image, likely_event, rounds);
     ratios[3] = measure_pairs("few differ", draw_neighbours, frostsorrel_compare, reference_compare, rounds);
     ratios[4] = measure_pairs("most differ", draw_strangers, frostsorrel_compare, reference_compare, rounds);
     ratios[5] = measure_pairs("explained", draw_questions, frostsorrel_explain, reference_explain, rounds);
@@ -548,6 +605,11 @@ int main(int argc, char **argv)
     ratios[7] = measure_feeds("tight rooms", some_events, 1, rounds);
     ratios[8] = measure_feeds("byte by byte", one_byte, 0, rounds);
     ratios[9] = measure("idle starts", idle_image, idle_event, rounds);
+    ratios[10] = measure("frames eCAN", receiving_ecan, receiving_event, rounds);
+    ratios[11] = measure("past guards", guarded_image, guarded_event, rounds);
+    ratios[12] = measure("sending eCAN", sending_ecan, sending_event, rounds);
+    ratios[13] = measure("mixed eCAN", ecan_image, likely_event, rounds);
+    ratios[14] = measure_pairs("guards told", draw_guarded_questions, frostsorrel_explain, reference_explain, rounds);
     for (size_t i = 0; i < sizeof ratios / sizeof ratios[0]; i++)
         worst = ratios[i] > worst ? ratios[i] : worst;
     printf("worst ratio %26.3f\n", worst);
