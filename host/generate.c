@@ -221,9 +221,11 @@ static uint32_t any_protection(const uint8_t *image)
 /* A mask or the protection: what only an eCAN takes. */
 static struct event any_own_write(const uint8_t *image)
 {
+    int n = (int)draw(32);
+
     if (one_in(2))
         return write_register(PROTECTION, any_protection(image));
-    return write_register(MASK((int)draw(32)), any_mask());
+    return write_register(MASK(n), any_mask());
 }
 
 /* Turns mailbox 31 round, holds it back, asks for it or cancels that: what an eCAN alone does. */
@@ -232,6 +234,8 @@ static struct event any_write_at_31(const uint8_t *image)
     static const int words[] = {MD, CDR, TRS, TRR};
     int word = ONE_OF(words);
 
+    if (word_of(image, TRS) & BIT_31 && one_in(2))
+        word = TRR;
     return write_register(word, word == MD || word == CDR ? word_of(image, word) ^ BIT_31 : BIT_31);
 }
 
@@ -401,11 +405,12 @@ static int edge_register(void)
 
 static struct event event_of_any_operation(const uint8_t *image)
 {
+    int number = edge_register();
 
     if (word_of(image, SLOT) != EMPTY_SLOT && one_in(3))
         return outcome((int)draw(5));
     switch (draw(16)) {
-    case 0: return plain_event(FROSTSORREL_WRITE_REGISTER, edge_register(), 0, edge_value());
+    case 0: return plain_event(FROSTSORREL_WRITE_REGISTER, number, 0, edge_value());
     case 1: return any_register_write(image);
     case 2: return one_in(8) ? bad_mailbox_write(image) : any_mailbox_write(image, (int)draw(4));
     case 3: case 4: case 5: return one_in(16) ? bad_frame() : some_frame(image);
