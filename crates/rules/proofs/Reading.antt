@@ -95,7 +95,7 @@ module _ (m : Words) (b : Block) where
         bit-3 = gsr-bits 3 ∙ rw (no-slot 3 (omega arith)) (simp (and-true, and-false, or-false));
         bit-2 = gsr-bits 2 ∙ rw (no-slot 2 (omega arith)) (simp (and-true, and-false, or-false));
         bit-1 = gsr-bits 1 ∙ rw (no-slot 1 (omega arith)) (simp (and-true, and-false, or-false));
-        bit-0 = gsr-bits 0 ∙ rw (no-slot 0 (omega arith)) (simp (and-true, and-false, or-false));
+        bit-0 = gsr-bits 0 ∙ rw (no-slot 0 (omega arith)) (simp (and-true, and-false));
         others =
             (past 11 (omega arith) ∙ no-slot 11 (omega arith), gsr-bits 9 ∙ rw (no-slot 9 (omega arith)) (simp (and-false, or-false)), gsr-bits 5 ∙ rw (no-slot 5 (omega arith)) (simp (and-false, or-false)), gsr-bits 4 ∙ rw (no-slot 4 (omega arith)) (simp (and-false, or-false)), λ n h. past n (omega arith) ∙ bit-high n 17 (shownSlot b * 2 ^ 12) (omega arith) h);
       }
