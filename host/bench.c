@@ -526,8 +526,8 @@ static double measure_feeds(const char *name, part_function *part, int tight, un
 
 static struct {
     const struct stream_calls *by;
-    uint8_t image[BYTES], state[FROSTSORREL_STREAM_BYTES], part[6 + EVENT_BYTES], text[64];
-    size_t room;
+    uint8_t image[BYTES], state[FROSTSORREL_STREAM_BYTES], part[6 + 5 * EVENT_BYTES], text[256];
+    size_t part_len, room;
 } on_stack;
 
 __attribute__((noinline)) static void open_on_stack(void)
@@ -539,7 +539,7 @@ __attribute__((noinline)) static void open_on_stack(void)
 __attribute__((noinline)) static void feed_on_stack(void)
 {
     on_stack.by->feed(on_stack.image, BYTES, on_stack.state, sizeof on_stack.state, on_stack.part,
-                      sizeof on_stack.part, on_stack.text, on_stack.room);
+                      on_stack.part_len, on_stack.text, on_stack.room);
 }
 
 __attribute__((noinline)) static void close_on_stack(void)
@@ -548,24 +548,34 @@ __attribute__((noinline)) static void close_on_stack(void)
                        sizeof on_stack.text);
 }
 
-/* A part with one event of the third section, in a room that never gets a 9, and in one where it is tried first. */
+/* The most that feeding so many events takes, from an opening on, in so much room. */
+static size_t feeding_stack(size_t events, size_t room)
+{
+    open_on_stack();
+    on_stack.part_len = 6 + events * EVENT_BYTES;
+    on_stack.room = room;
+    return stack_of(feed_on_stack);
+}
+
+/* Ticks of the third section: one in a room that never gets a 9; one, and five, which are more than 65 bytes, in just enough. */
 static void print_stack(const char *who, const struct stream_calls *by)
 {
-    size_t opening, roomy, tight, closing;
+    const size_t line = sizeof "1 0 32 0\n" - 1;
+    size_t opening, roomy, tight, longer, closing;
 
     memset(on_stack.part, 0, sizeof on_stack.part);
-    on_stack.part[4] = 1;
-    on_stack.part[6] = FROSTSORREL_TICK;
+    on_stack.part[4] = 5;
+    for (size_t i = 6; i < sizeof on_stack.part; i += EVENT_BYTES)
+        on_stack.part[i] = FROSTSORREL_TICK;
     on_stack.by = by;
     opening = stack_of(open_on_stack);
-    on_stack.room = sizeof on_stack.part + FROSTSORREL_STREAM_FEED_BYTES;
-    roomy = stack_of(feed_on_stack);
-    open_on_stack();
-    on_stack.room = sizeof "1 0 32 0\n" - 1;
-    tight = stack_of(feed_on_stack);
+    roomy = feeding_stack(1, sizeof on_stack.text);
+    tight = feeding_stack(1, line);
+    longer = feeding_stack(5, 5 * line);
     closing = stack_of(close_on_stack);
-    printf("bytes of the stack, %s: %lu opening, %lu feeding, %lu in a tight room, %lu closing\n", who,
-           (unsigned long)opening, (unsigned long)roomy, (unsigned long)tight, (unsigned long)closing);
+    printf("bytes of the stack, %s: %lu opening, %lu feeding, %lu in a tight room, %lu of a longer part, %lu closing\n", who,
+           (unsigned long)opening, (unsigned long)roomy, (unsigned long)tight, (unsigned long)longer,
+           (unsigned long)closing);
 }
 
 static unsigned long argument(int argc, char **argv, int at, unsigned long usual)

@@ -10,8 +10,8 @@ use Rattle.events.specs.declared.Event.{Event}
 use Rattle.events.specs.declared.Event.the-variants.{Refused, Register, Mailbox, Heard, Start, Outcome, ReceiveError, Recessive, Tick, Mode, Options, Reset}
 use Rattle.events.specs.Parts.{eventBytes, operation, target, word, value, quiet, frameOf, frameBytes, frameAllowed}
 
--- The events, refusal 2: the registers that can be written: 0 to 19, but neither RML (7) nor RFP (10); the masks of an eCAN, 64 to
--- 95, and its protection word, 96.
+-- The events, refusal 2: the registers that can be written: 0 to 19, but neither RML (7) nor RFP (10); by document 02,
+-- g), the masks of an eCAN, 64 to 95, and its protection word, 96.
 abbrev pub writable : ℕ → Bool
 writable t = (leb t 19 && not (eqb t 7) && not (eqb t 10)) || (leb 64 t && leb t 96)
 

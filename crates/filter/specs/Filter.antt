@@ -22,21 +22,21 @@ use Rattle.filter.specs.declared.Delivery.the-variants.{Into, Reply, Now
 unfoldable pub candidates : Block → Frame → ℕ
 candidates b f = cond (f .rtr) (b .mc) (bitAnd (b .mc) (b .md))
 
--- Receiving: the order of the search. The mailbox at place k is mailbox k of a CAN-B; an eCAN begins with the highest number.
+-- Receiving; document 02, g): the order of the search. The mailbox at place k is mailbox k of a CAN-B; an eCAN begins with the highest.
 abbrev pub lastMailbox : ℕ
 lastMailbox = 31
 
 unfoldable pub seat : Block → ℕ → ℕ
 seat b k = cond (ecan b) (lastMailbox - k) k
 
--- Receiving: the mask of a mailbox: of a CAN-B LAM for the last one and GAM for the others, of an eCAN its own.
+-- Receiving; document 02, g): the mask of a mailbox: of a CAN-B LAM for the last one and GAM for the others, of an eCAN its own.
 abbrev pub sharedMask : Block → ℕ → ℕ
 sharedMask b n = cond (eqb n lastMailbox) (b .lam) (b .gam)
 
 abbrev pub maskFor : List ℕ → Block → ℕ → ℕ
 maskFor s b n = cond (ecan b) (maskWord s n) (sharedMask b n)
 
--- Receiving: the bits of word 0, w, that need not agree: those of the mask, at a mailbox whose GAME or LAME bit is up.
+-- Receiving: the bits of word 0, w, that need not agree: those of the mask, at a mailbox whose GAME, LAME or AME bit is up.
 abbrev pub freedBy : ℕ → ℕ → ℕ
 freedBy mask w = cond (maskable w) mask 0
 
@@ -61,7 +61,7 @@ agreeing mask f w = eqb (differing mask f w) 0
 unfoldable pub matches : List ℕ → Frame → ℕ → Bool
 matches s f n = agreeing (maskFor s (blockOf s) n) f (mailboxWord s n 0)
 
--- Receiving, overwrite protection: the mailboxes of an eCAN that pass a matching frame over, as a flag word: those that receive,
+-- Document 02, g), overwrite protection: the mailboxes of an eCAN that pass a matching frame over, as a flag word: those that receive,
 -- hold a frame and are protected.
 unfoldable pub guarded : Block → ℕ
 guarded b = cond (ecan b) (bitAnd (bitAnd (b .protection) (b .rmp)) (b .md)) 0
@@ -74,7 +74,7 @@ takes s f n = matches s f n && not (bit (guarded (blockOf s)) n)
 unfoldable pub hits : List ℕ → Frame → ℕ → Bool
 hits s f n = bit (candidates (blockOf s) f) n && takes s f n
 
--- Receiving, overwrite protection: mailbox n is compared with the frame, matches it and passes it over.
+-- Document 02, g), overwrite protection: mailbox n is compared with the frame, matches it and passes it over.
 unfoldable pub passes : List ℕ → Frame → ℕ → Bool
 passes s f n = bit (candidates (blockOf s) f) n && (matches s f n && bit (guarded (blockOf s)) n)
 
@@ -104,7 +104,7 @@ placed s (At n c) =
     cond (bit (blockOf s .md) n) (Into n c) (cond (rfh (mailboxWord s n 0)) (Reply n c) (Nowhere c))
 placed s (Missing c) = Nowhere c
 
--- Receiving, overwrite protection: a frame that is heard and that every matching mailbox passes over, at least one.
+-- Document 02, g), overwrite protection: a frame that is heard and that every matching mailbox passes over, at least one.
 unfoldable pub passedOver : List ℕ → Frame → Bool
 passedOver s f =
     onBus (blockOf s) && (ltb 0 (countBelow (passes s f) mailboxes) && eqb (countBelow (hits s f) mailboxes) 0)

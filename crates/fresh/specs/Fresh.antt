@@ -9,8 +9,8 @@ use Rattle.registers.specs.declared.Block.{Block}
 use Rattle.registers.specs.Block.{imageBytes, ofWords, putBlock, withMd, withMode, withWaiting, withSlot, withProfile, configuration, noMode, emptySlot, eCan}
 use Rattle.answers.specs.Answer.{Outcome, refused, accepted}
 
--- The image, fresh: every register word zero, but bit 31 of a CAN-B's MD up, the mode configuration, no mode
--- waiting, the slot empty; and the profile.
+-- The image, fresh: every register word zero, but bit 31 of a CAN-B's MD up, the mode configuration, no mode waiting, the slot empty;
+-- and, by document 02, g), the profile.
 abbrev pub zeroBlock : Block
 zeroBlock = ofWords []
 
@@ -29,7 +29,8 @@ zeroImage = replicate imageBytes 0
 unfoldable pub freshImage : ℕ → List ℕ
 freshImage profile = putBlock zeroImage (freshBlock profile)
 
--- The image, fresh: any 776 bytes are filled; another length gets refusal 1, then another profile refusal 4.
+-- The image, fresh: any 776 bytes are filled; another length gets refusal 1, then, by document 02, g),
+-- another profile refusal 4.
 unfoldable pub fresh : List ℕ → ℕ → Outcome
 fresh s profile =
     cond (eqb (length s) imageBytes) (cond (leb profile eCan) (accepted (freshImage profile)) (refused s 4)) (refused s 1)

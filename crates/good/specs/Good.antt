@@ -16,8 +16,8 @@ use Rattle.mailboxes.specs.Mailbox.{mailboxes, layout}
 
 -- ---- the clauses on the register block
 
--- The image, good image: the profile is eCAN, or it is CAN-B, whose mailbox 31 only receives: bit 31 of MD is up, and down in every
--- word that belongs to sending.
+-- The image, good image; document 02, g): asked of what is no eCAN: the profile is CAN-B, and mailbox 31 only receives: bit 31 of MD is up,
+-- and down in every word that belongs to sending.
 abbrev pub lastReceives : Block → List Bool
 lastReceives b =
     eqb (b .profile) canB ∷ topUp (b .md) ∷ topDown (b .trs) ∷ topDown (b .trr) ∷ topDown (b .ta) ∷ topDown (b .aa) ∷ topDown (b .cdr) ∷ topDown (b .mbtif) ∷ []
@@ -149,7 +149,7 @@ spareWords s =
 unfoldable pub goodSpare : List ℕ → Bool
 goodSpare s = every (spareWords s)
 
--- The image, good image: no mask of a mailbox has bits 30 and 29, in either profile.
+-- The image, good image; document 02, g): no mask of a mailbox has bits 30 and 29, in either profile.
 abbrev pub goodMask : List ℕ → ℕ → Bool
 goodMask s n = gapDown (maskWord s n)
 

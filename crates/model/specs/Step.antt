@@ -1,4 +1,4 @@
--- One step: what an accepted event does to the registers, to the bytes of a mailbox, and what it answers.
+-- One step: what an accepted event does to the registers, to the bytes of a mailbox or the masks, and what it answers.
 use Prim.Native.Nat.{ℕ, _+_, _-_, _*_}
 use mathlib.Core.Bool.{Bool, false, cond}
 use mathlib.Core.List.{List}
@@ -106,11 +106,11 @@ postmarked s = withMailbox s (blockOf s .slot) (stamped (mailbox s (blockOf s .s
 unfoldable pub rewritten : List ℕ → ℕ → ℕ → ℕ → List ℕ
 rewritten s n k v = withMailbox s n (putWord (mailbox s n) (4 * k) v)
 
--- Writing, registers 64 to 95 of an eCAN: the mask of a mailbox takes the value.
+-- Writing; document 02, g), registers 64 to 95 of an eCAN: the mask of a mailbox takes the value.
 unfoldable pub masked : List ℕ → ℕ → ℕ → List ℕ
 masked s t v = cond (isMask t) (putWord s (masksAt + 4 * (t - 64)) v) s
 
--- The events, reset: every mask is zero again.
+-- The events, reset; document 02, g): every mask is zero again.
 unfoldable pub unmasked : List ℕ → List ℕ
 unmasked s = putWords s masksAt (replicate mailboxes 0)
 

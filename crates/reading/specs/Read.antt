@@ -14,10 +14,11 @@ use Rattle.answers.specs.Answer.{Reading, unread}
 abbrev pub gsrNumber : ℕ
 gsrNumber = 32
 
--- Writing: the registers 0 to 21, GSR of a CAN-B, and the masks and the protection word of an eCAN, in both profiles, can be read.
+-- Document 02, g): the numbers of the masks and of the protection word.
 abbrev pub beyond : ℕ → Bool
 beyond k = leb 64 k && leb k 96
 
+-- Writing: the registers 0 to 21, GSR of a CAN-B, and, by document 02, g), those words, in both profiles, can be read.
 abbrev pub readable : Bool → ℕ → Bool
 readable ecan k = leb k 21 || (not ecan && eqb k gsrNumber) || beyond k
 

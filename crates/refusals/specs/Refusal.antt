@@ -51,7 +51,7 @@ busy b (Mode m) = false
 busy b (Options v) = false
 busy b Reset = false
 
--- The events, locked: the registers of the other profile: the masks and the protection word of an eCAN, LAM and GAM of a CAN-B.
+-- The events, locked; document 02, g): the registers of the other profile: the masks and the protection word of an eCAN, LAM and GAM of a CAN-B.
 abbrev pub foreign : Block → ℕ → Bool
 foreign b t = cond (ecan b) (eqb t 8 || eqb t 9) (leb 64 t)
 

@@ -15,7 +15,7 @@ registersAt = 512
 abbrev pub registerWords : ℕ
 registerWords = 28
 
--- The image, from 640: a mask for each mailbox, then the protection word, then the profile.
+-- Document 02, g), the image from byte 640 on: a mask for each mailbox, then the protection word, then the profile.
 abbrev pub masksAt : ℕ
 masksAt = 640
 
@@ -168,7 +168,7 @@ noMode = 4
 abbrev pub emptySlot : ℕ
 emptySlot = 32
 
--- The image, its last word: the two profiles, CAN-B and eCAN.
+-- Document 02, g), the last word of the image: the two profiles, CAN-B and eCAN.
 abbrev pub canB : ℕ
 canB = 0
 

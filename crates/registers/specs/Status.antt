@@ -11,7 +11,7 @@ vacant b = eqb (b .slot) emptySlot
 abbrev pub filled : Block → Bool
 filled b = not (vacant b)
 
--- The profile: is it an eCAN?
+-- Document 02, g), the profile: is it an eCAN?
 abbrev pub ecan : Block → Bool
 ecan b = eqb (b .profile) eCan
 

@@ -77,7 +77,7 @@ writes b v =
     ∷ withTsc b v
     ∷ []
 
--- Writing, register 96 of an eCAN: the protection word takes the value.
+-- Writing; document 02, g), register 96 of an eCAN: the protection word takes the value.
 abbrev pub protectionNumber : ℕ
 protectionNumber = 96
 

@@ -67,7 +67,7 @@ unused op e =
     || not (among op (0 ∷ 1 ∷ 2 ∷ 5 ∷ 8 ∷ 9 ∷ [])) && not (value e is 0)
     || not (allBelow (λ i. usesData op e i || byte e (8 + i) is 0) 8)
 
--- Refusal 4, what a register does not take.
+-- Refusal 4, what a register does not take; by document 02, g), every mask is bound, and bit 31 of CDR in a CAN-B alone.
 abbrev pub registerBad : Words → ℕ → ℕ → Bool
 registerBad w t v =
     isMask t && (v has 30 || v has 29)

@@ -16,12 +16,12 @@ pub record Layout (s : List ℕ) (n : ℕ) : Type 0 where
 
 -- The image, its register words.
 pub record GoodWords (w : Words) : Type 0 where
-  -- one of the two controllers; of a CAN-B mailbox 31 only receives
+  -- document 02, g): one of the two controllers; of a CAN-B mailbox 31 only receives
   pub profile : w PROFILE ≤ 1
   pub md : eCan w ≡ false → w MD has 31 ≡ true
   pub bit-31 : eCan w ≡ false → (k : ℕ) → among k (TRS ∷ TRR ∷ TA ∷ AA ∷ CDR ∷ MBTIF ∷ []) ≡ true → w k has 31 ≡ false
   -- flags: a request stands at a transmit mailbox alone; a cancel stands at the slot's mailbox alone, where a request is; a lost or a remote
-  -- frame is a pending one; the masks have no bits 30 and 29
+  -- frame is a pending one; no mask, of a mailbox neither (document 02, g), has bits 30 and 29
   pub trs : (n : ℕ) → w TRS has n ≡ true → w MD has n ≡ false
   pub trr : (n : ℕ) → w TRR has n ≡ true → (n ≡ w SLOT) × (w TRS has n ≡ true)
   pub rml-rfp : (k n : ℕ) → among k (RML ∷ RFP ∷ []) ≡ true → w k has n ≡ true → w RMP has n ≡ true
@@ -41,7 +41,7 @@ pub record GoodWords (w : Words) : Type 0 where
   pub waits-for : w WAITING ≢ 4 → w SLOT ≡ emptySlot → w TEC ≡ 256
   pub sleeps : w MODE ≡ 2 → (w TEC ≡ 0) × (w REC ≡ 0) × (w TRS ≡ 0) × (w TRR ≡ 0)
 
--- The image: 776 bytes, 32 mailboxes, the register words and those behind them.
+-- The image: 776 bytes (document 02, g), 32 mailboxes, the register words and those behind them.
 pub record Good (s : List ℕ) : Type 0 where
   pub size : length s ≡ 776
   pub layouts : (n : ℕ) → n < 32 → Layout s n

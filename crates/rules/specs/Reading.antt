@@ -9,7 +9,7 @@ use Rattle.answers.specs.Answer.{Reading}
 use Rattle.rules.specs.Words.{_has_, _is_, Words, words, MODE, SLOT, TSO, eCan, emptySlot, added, place}
 use Rattle.rules.specs.Image.{Good, busOff, passive, warning}
 
--- GSR, bit by bit. An empty slot is shown as 31.
+-- GSR, bit by bit. An empty slot is shown as 31 (document 02, g).
 pub record Gsr (w : Words) (v : ℕ) : Type 0 where
   pub bits-16-12 : (n : ℕ) → n < 5 → (v has (12 + n)) ≡ (cond (w SLOT is emptySlot) 31 (w SLOT) has n)
   pub bit-10 : (v has 10) ≡ not (w SLOT is emptySlot)

@@ -1,4 +1,4 @@
--- The worked case of source document 002, section 3.2.5, in an eCAN: three mailboxes for one identifier, so that no frame is lost.
+-- The worked case of source document 002, section 3.2.5, in an eCAN: three mailboxes for one identifier, of which two are protected.
 use Prim.Native.Nat.{ℕ}
 use mathlib.Core.List.{List, [], _∷_, _++_}
 use lib.ListN.{replicate}
