@@ -980,7 +980,7 @@ static size_t list_differences(uint32_t *entries, const uint8_t *first, const ui
     return (size_t)(at - entries) / ENTRY_WORDS;
 }
 
-/* In pieces: for more than 2,047 bytes memcpy takes an instruction that the emulator of the bench does byte by byte. */
+/* In pieces: a memcpy of more than 2,047 bytes is very slow under the emulator of the bench. */
 static void copy_list(uint8_t *list, const uint32_t *entries, size_t count)
 {
     enum { PIECE = 64 };

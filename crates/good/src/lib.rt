@@ -178,7 +178,7 @@ fn good_spare(s: &[u8]) -> bool
 }
 
 // The masks of two mailboxes as one number; `|` of such numbers has bits 30 and 29 of a mask where one of them has. Of the 16 pairs
-// every other one comes first, then those between: where neighbours are joined the compiler takes vectors, which cost more.
+// every other one comes first, then those between, so that the compiler has no neighbours to make vectors of.
 fn pair(s: &[u8], k: usize) -> u64
     requires { ⌜ (length (now s) ≡ imageBytes) × (k < 16) ⌝ }
     ensures { λ r. ⌜ bare r ≡ goodPair (now (s .entry)) k ⌝ }
