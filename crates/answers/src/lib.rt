@@ -1,4 +1,6 @@
 // What a call leaves and answers, in one number.
+#![tactic(auto)]
+
 ghost use Rattle.std.specs.Prelude.{◌≡◌};
 ghost use Rattle.answers.specs.Answer.{packed, packed_reading};
 

@@ -1,4 +1,6 @@
 // Flag words: one bit for each mailbox. Everything here is said for any bit number.
+#![tactic(auto)]
+
 ghost use Rattle.std.specs.Prelude.{◌≡◌, ◌<◌, cond};
 ghost use Rattle.bits.specs.Bit.{bit, mask as mask_of, set_bit, without as without_of, flag as flag_of, Highest};
 

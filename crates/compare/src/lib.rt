@@ -13,7 +13,7 @@ const BY_FOURS: usize = 192;
 const LONGEST: usize = 2328;
 
 // One differing word: its number in the image, and both contents.
-#[derive(Drop)]
+#[derive(Clone, Copy)]
 pub struct Entry {
     pub number: u32,
     pub first: u32,

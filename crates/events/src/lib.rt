@@ -14,7 +14,7 @@ pub use frames::{frame_of, frame_refusal};
 use mailboxes::Identifier;
 
 // One frame, in numbers: its data bytes as one of 64 bits, the first lowest.
-#[derive(Drop)]
+#[derive(Clone, Copy)]
 pub struct Frame {
     pub ide: bool,
     pub rtr: bool,
@@ -23,7 +23,7 @@ pub struct Frame {
     pub bytes: u64,
 }
 
-#[derive(Drop)]
+#[derive(Clone, Copy)]
 pub enum Event {
     Refused { number: u32 },
     Register { target: u32, value: u32 },

@@ -16,7 +16,7 @@ use registers::Block;
 const LONGEST: usize = 256;
 
 // The reasons. The bit is one of word 0; the state is the mode, or 4 in bus off.
-#[derive(Drop)]
+#[derive(Clone, Copy)]
 pub enum Reason {
     Disabled,
     Transmits,
@@ -28,7 +28,7 @@ pub enum Reason {
 }
 
 // What is said of a mailbox; 32 where the frame is not heard.
-#[derive(Drop)]
+#[derive(Clone, Copy)]
 pub struct Line {
     pub mailbox: u8,
     pub reason: Reason,

@@ -10,14 +10,14 @@ use events::Frame;
 use registers::Block;
 
 // What the search finds.
-#[derive(Drop)]
+#[derive(Clone, Copy)]
 pub enum Found {
     At { mailbox: u32, count: u32 },
     Missing { count: u32 },
 }
 
 // Where the frame goes.
-#[derive(Drop)]
+#[derive(Clone, Copy)]
 pub enum Delivery {
     Into { mailbox: u32, count: u32 },
     Reply { mailbox: u32, count: u32 },

@@ -75,7 +75,7 @@ fn good_block(b: Block) -> bool
 
 // What is gathered of words 0 and 1 to judge many mailboxes at once. For a word 0 stands a sum that reaches 2^32 where the word breaks
 // the layout, and `|` of sums reaches it where one of them does. A word 1 stands for itself: `|` of them has every bit that one has.
-#[derive(Drop)]
+#[derive(Clone, Copy)]
 pub struct Gathered {
     pub identifiers: u64,
     pub controls: u32,

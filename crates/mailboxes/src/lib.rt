@@ -1,4 +1,6 @@
 // A mailbox: 16 bytes of the image, four words.
+#![tactic(auto)]
+
 mod filing;
 mod keys;
 
@@ -10,10 +12,10 @@ pub use filing::{HIGHEST_DLC, data_bytes, put_frame, put_stamp};
 pub use keys::{identifier_of, key_of, word_of};
 
 // An identifier and an arbitration key: two numbers of 32 bits that are never one another.
-#[derive(Drop)]
+#[derive(Clone, Copy)]
 pub struct Identifier(u32);
 
-#[derive(Drop)]
+#[derive(Clone, Copy)]
 pub struct Key(pub u32);
 
 pub const MAILBOX_BYTES: usize = 16;

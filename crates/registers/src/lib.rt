@@ -1,4 +1,6 @@
 // The register block: the words from byte 512 of the image, by value.
+#![tactic(auto)]
+
 mod frames;
 mod modes;
 mod sending;
@@ -28,7 +30,7 @@ pub const E_CAN: u32 = 1;
 pub const EMPTY_SLOT: u32 = 32;
 
 // A field for each of the words 0 to 27, and for the two at the end of the image; the words 28 to 31 are no part of the block.
-#[derive(Drop)]
+#[derive(Clone, Copy)]
 pub struct Block {
     // 0: MC: the mailbox is enabled
     pub mc: u32,

@@ -31,7 +31,7 @@ fn key_at(s: &[u8], n: u32) -> Key
 }
 
 // The best mailbox so far and its key; mailbox 32 for none yet, since every number is some frame's key.
-#[derive(Drop)]
+#[derive(Clone, Copy)]
 pub struct Best {
     pub mailbox: u32,
     pub key: Key,

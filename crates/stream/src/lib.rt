@@ -26,7 +26,7 @@ const OVER: u32 = 5;
 
 // Where the reading stands, as the first four words of the state have it: the section, or BEHIND, or OVER; the events of it that are not complete,
 // 0 while its count is read; the events that are complete; how many bytes are gathered of a count or an event.
-#[derive(Drop)]
+#[derive(Clone, Copy)]
 pub struct Reader {
     pub section: u32,
     pub left: u32,
@@ -35,7 +35,7 @@ pub struct Reader {
 }
 
 // A reader, and how many bytes of text there are.
-#[derive(Drop)]
+#[derive(Clone, Copy)]
 pub struct Taken {
     pub reader: Reader,
     pub length: usize,

@@ -1,4 +1,6 @@
 // What is put into lent bytes, from a place on; each function answers the place behind what it wrote.
+#![tactic(auto)]
+
 ghost use Rattle.std.specs.Prelude.{◌≡◌, [], ◌∷◌, ◌+◌, ◌/◌, ◌%◌, ◌<◌, ◌≤◌, length};
 ghost use Rattle.answers.specs.Answer.{Fitted};
 ghost use Rattle.texts.specs.Text.{Put, word_bytes, decimal, field};

@@ -1,4 +1,6 @@
 // Little-endian words in lent bytes.
+#![tactic(auto)]
+
 ghost use Rattle.std.specs.Prelude.{◌≡◌, ◌+◌, ◌*◌, ◌<◌, ◌≤◌, length, get_or};
 ghost use Rattle.words.specs.Word.{word_at, put_word, words_of, put_words};
 

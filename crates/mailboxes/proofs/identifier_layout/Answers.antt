@@ -1,0 +1,5 @@
+use borrow.Author.Rules.{rules}
+use Rattle.mailboxes.proofs.identifier_layout.Goals as goal
+
+pub returns : goal.returns
+returns c = rw c.test.ensures

@@ -1,0 +1,8 @@
+use Rattle.registers.specs.Block.{with_waiting}
+use Rattle.registers.specs.Modes.{asked}
+use borrow.Author.Rules.{rules}
+use Rattle.registers.proofs.Block.ask.Goals as goal
+
+pub returns : goal.returns
+unfolding asked
+returns c = λ i. with_waiting c.args.self (c.choose.ensures i)
