@@ -1,4 +1,6 @@
 // Events: 16 bytes become a case each, or a refusal.
+#![tactic(auto)]
+
 mod frames;
 mod parts;
 mod writes;

@@ -1,4 +1,6 @@
 // Is an image good?
+#![tactic(auto)]
+
 ghost use Rattle.std.specs.Prelude.{◌≡◌, ◌&&◌, eqb, ltb, ◌+◌, ◌<◌, ◌≤◌, length};
 ghost use Rattle.words.specs.Word.{word_at};
 ghost use Rattle.registers.specs.Block.{image_bytes, empty_slot};

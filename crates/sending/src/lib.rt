@@ -1,4 +1,6 @@
 // The choice of what to send.
+#![tactic(auto)]
+
 ghost use Rattle.std.specs.Prelude.{◌≡◌, ◌<◌, length};
 ghost use Rattle.bits.specs.Bit.{bit};
 ghost use Rattle.bits.specs.Below.{first_below};

@@ -1,0 +1,5 @@
+use borrow.Author.Rules.{rules}
+use Rattle.events.proofs.plain_event.Goals as goal
+
+pub returns : goal.returns
+returns c = rw (c.judged.ensures, c.quiet.ensures)

@@ -1,0 +1,7 @@
+use Rattle.mailboxes.specs.Mailbox.{layout}
+use borrow.Author.Rules.{rules}
+use Rattle.good.proofs.gather.Goals as goal
+
+pub returns : goal.returns
+unfolding layout
+returns c = cc

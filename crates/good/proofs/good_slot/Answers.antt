@@ -1,0 +1,7 @@
+use Rattle.good.specs.Good.{good_slot}
+use borrow.Author.Rules.{rules}
+use Rattle.good.proofs.good_slot.Goals as goal
+
+pub returns : goal.returns
+unfolding good_slot
+returns c = rw c.slot_mask-x.ensures

@@ -1,0 +1,13 @@
+use Prim.Native.Nat.{◌*◌, ◌/◌, ◌%◌}
+use mathlib.Core.Path.{◌∙◌, ap}
+use mathlib.Core.Bool.{Bool, ◌&&◌}
+use lib.Dec.{ltb}
+use Rattle.good.proofs.Stretches.{or-ltb, control_above}
+use borrow.Author.Rules.{rules}
+use Rattle.good.proofs.is_clean.Goals as goal
+
+pub returns : goal.returns
+returns c =
+    let x = c.args.x in
+    or-ltb 32 x.identifiers (x.controls / 32 % 2048 * 4294967296)
+    ∙ ap (λ (t : Bool). ltb x.identifiers 4294967296 && t) (control_above x.controls)
