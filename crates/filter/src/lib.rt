@@ -1,4 +1,6 @@
 // Filtering: which mailbox a frame goes to.
+#![tactic(auto)]
+
 ghost use Rattle.std.specs.Prelude.{◌≡◌, false, cond, ℕ, ◌<◌, length};
 ghost use Rattle.registers.specs.Block.{image_bytes, mask_word, block_of};
 ghost use Rattle.bits.specs.Bit.{bit};

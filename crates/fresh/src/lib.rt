@@ -1,4 +1,6 @@
 // A fresh model.
+#![tactic(auto)]
+
 ghost use Rattle.std.specs.Prelude.{◌≡◌, length, replicate};
 ghost use Rattle.registers.specs.Block.{image_bytes, put_block};
 ghost use Rattle.answers.specs.Answer.{Promise};

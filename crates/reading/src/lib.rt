@@ -1,4 +1,6 @@
 // Reading a register.
+#![tactic(auto)]
+
 mod gsr;
 
 ghost use Rattle.std.specs.Prelude.{◌≡◌, true, ◌≤◌};

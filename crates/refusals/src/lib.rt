@@ -1,4 +1,6 @@
 // Refusals 5, 6 and 7, once the image is good and the event is decoded.
+#![tactic(auto)]
+
 ghost use Rattle.std.specs.Prelude.{◌≡◌, [], ◌∷◌, ◌<◌, length};
 ghost use Rattle.bits.specs.Tests.{first_from};
 ghost use Rattle.registers.specs.Block.{image_bytes, block_of};

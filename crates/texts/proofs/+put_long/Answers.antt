@@ -11,7 +11,7 @@ use Rattle.texts.proofs.+put_long.Goals as goal
 pub put_digit-requires : goal.put_digit-requires
 put_digit-requires t c =
     let e = ap length (decimal-short c.args.n c.if-n-lt10.true) in
-    omega (arith, c.requires.1)
+    omega (arith, c.requires)
 
 pub returns-then-n-lt10 : goal.returns-then-n-lt10
 returns-then-n-lt10 t c = as_text (sym (decimal-short c.args.n c.if-n-lt10.true)) c.put_digit.ensures
@@ -20,13 +20,13 @@ pub put_long-last-requires : goal.put_long-last-requires
 put_long-last-requires t c =
     let n = c.args.n in
     let l = c.if-n-lt10.false in
-    (omega (arith, c.requires.0), front (decimal (n / 10)) ((48 + n % 10) ∷ []) c.args.at _ (rw (decimal_long n l) at c.requires.1))
+    (omega arith, front (decimal (n / 10)) ((48 + n % 10) ∷ []) c.args.at _ (rw (decimal_long n l) at c.requires))
 
 pub put_digit-requires-2 : goal.put_digit-requires-2
 put_digit-requires-2 t c =
     let n = c.args.n in
     let l = c.if-n-lt10.false in
-    let r = room c.put_long-last.ensures ((48 + n % 10) ∷ []) (rw (decimal_long n l) at c.requires.1) in
+    let r = room c.put_long-last.ensures ((48 + n % 10) ∷ []) (rw (decimal_long n l) at c.requires) in
     omega arith
 
 pub returns : goal.returns

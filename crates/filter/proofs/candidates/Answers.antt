@@ -1,0 +1,7 @@
+use Rattle.filter.specs.Filter.{candidates}
+use borrow.Author.Rules.{rules}
+use Rattle.filter.proofs.candidates.Goals as goal
+
+pub returns : goal.returns
+unfolding candidates
+returns c = c.choose.ensures
