@@ -1,4 +1,6 @@
 // Document 02, request a: comparing two images.
+#![tactic(auto)]
+
 ghost use Rattle.std.specs.Prelude.{◌≡◌, true, ◌+◌, ◌*◌, ◌/◌, ◌<◌, ◌≤◌, length};
 ghost use Rattle.registers.specs.Block.{image_bytes};
 ghost use Rattle.texts.specs.Text.{Put};

@@ -14,8 +14,8 @@ pub place_at-requires : goal.place_at-requires
 place_at-requires c =
     let p = c.requires in
     let a = c.args in
-    let m = c.mailbox-1.given in
-    (p.0, p.1, (found-at a.s.now a.f m.0.0 m.0.1.0 (sym c.find.ensures ∙ m.1)).there)
+    let m = c.in-At in
+    (p.0, p.1, (found-at a.s.now a.f m.mailbox m.count (sym c.find.ensures ∙ m.is)).there)
 
 pub returns-in-At : goal.returns-in-At
 returns-in-At c =
