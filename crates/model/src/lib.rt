@@ -2,6 +2,8 @@
 //
 // Each operation loads the register block and stores it by itself. The compiler then sees which words an operation leaves alone,
 // and neither loads nor stores them.
+#![tactic(auto)]
+
 ghost use Rattle.std.specs.Prelude.{◌≡◌, cond, eqb, length, ◌<◌, ◌≤◌};
 ghost use Rattle.registers.specs.Block.{image_bytes, block_of, put_block, no_mode, empty_slot};
 ghost use Rattle.registers.specs.Modes.{settled};
