@@ -1,4 +1,6 @@
 // The trace program's library: a trace file in, its listing out.
+#![tactic(auto)]
+
 ghost use Rattle.std.specs.Prelude.{◌≡◌, true, ◌+◌, ◌*◌, ◌%◌, ◌<◌, ◌≤◌, length, get_or};
 ghost use Rattle.model.specs.Step.{step as step_of};
 ghost use Rattle.registers.specs.Block.{can_b};

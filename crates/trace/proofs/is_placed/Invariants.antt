@@ -1,0 +1,15 @@
+use borrow.Author.Tests.{not-true, not-false}
+use lib.ListN.{get_or}
+use Prim.Native.Nat.{◌+◌, ◌-◌, ◌*◌, ◌≤◌}
+use mathlib.Core.Path.{◌≡◌, refl, sym, ◌∙◌, ap}
+use mathlib.Core.Bool.{Bool, true, false, ◌&&◌}
+use native.Mathlib.Omega.{arith}
+use Rattle.trace.specs.Trace.{placed, takes}
+use Rattle.trace.proofs.Runs.{placed-none, placed_more}
+use Rattle.trace.proofs.is_placed.Given as goal
+
+abbrev pub invariant-loop-left : goal.invariant-loop-left
+invariant-loop-left l = (placed l.k l.file l.at l.left ≡ placed l.k l.file l.from l.n) × (l.at + 16 * l.left ≤ 17179869184)
+
+abbrev pub decreases-loop-left : goal.decreases-loop-left
+decreases-loop-left l = l.left

@@ -1,0 +1,32 @@
+use mathlib.Core.Path.{ap}
+use mathlib.Core.List.{◌++◌}
+use Prim.Native.Nat.{◌+◌}
+use native.Mathlib.Omega.{arith}
+use lib.ListN.{length}
+use Rattle.registers.specs.Block.{can_b}
+use Rattle.fresh.specs.Fresh.{fresh_image}
+use Rattle.trace.specs.Trace.{events, lines, ending, run}
+use Rattle.texts.proofs.Writing.{as_text, both_put, room, front}
+use Rattle.trace.proofs.Bound.{run-most}
+use borrow.Author.Rules.{rules}
+use Rattle.trace.proofs.list_trace.Goals as goal
+
+pub run_all-b-requires : goal.run_all-b-requires
+unfolding run
+run_all-b-requires c =
+    let f = c.args.file.now in
+    let l = lines 1 (fresh_image can_b) (events f) in
+    let e = ending (length (events f)) in
+    let m = run-most f c.requires.0 in
+    (c.requires.0, front l e _ _ (room c.put_text-a.ensures (l ++ e) (omega (arith, c.requires.1))))
+
+pub put_ending-requires : goal.put_ending-requires
+unfolding run
+put_ending-requires c =
+    let f = c.args.file.now in
+    let m = run-most f c.requires.0 in
+    rw c.event_count.ensures (room c.run_all-b.ensures (ending (length (events f))) (room c.put_text-a.ensures (lines 1 (fresh_image can_b) (events f) ++ ending (length (events f))) (omega (arith, c.requires.1))))
+
+pub returns : goal.returns
+unfolding run
+returns c = both_put c.put_text-a.ensures (both_put c.run_all-b.ensures (as_text (ap ending c.event_count.ensures) c.put_ending.ensures))
