@@ -1,4 +1,6 @@
 // Document 02, request d: why did it land there?
+#![tactic(auto)]
+
 ghost use Rattle.std.specs.Prelude.{◌≡◌, false, ◌+◌, ◌<◌, ◌≤◌, length};
 ghost use Rattle.bits.specs.Bit.{bit};
 ghost use Rattle.registers.specs.Block.{image_bytes, block_of};

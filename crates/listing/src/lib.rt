@@ -1,5 +1,7 @@
 // The C entry point of the listing. It is an object of its own in the archive: beside the entry point of the step it would be a
 // second caller, and the compiler would no longer make one function of step and entry point.
+#![tactic(auto)]
+
 ghost use Rattle.rules.specs.Calls.{ListingCall};
 
 // uint64_t frostsorrel_listing(const uint8_t *trace, size_t trace_len, uint8_t *text, size_t text_len)

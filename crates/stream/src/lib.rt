@@ -1,6 +1,8 @@
 // Document 02, request e, traces that arrive over a slow cable: a trace in parts, and its C entry points. The crate is an object of its own in
 // the archive, as the listing's is: in one object with frostsorrel_step it would be a second caller of the step, which would then be inlined
 // in neither (D136).
+#![tactic(auto)]
+
 ghost use Rattle.std.specs.Prelude.{◌≡◌, true, cond, [], ◌≢◌, ◌+◌, ◌*◌, ◌<◌, ◌≤◌, eqb, leb, length, drop, get_or};
 ghost use Rattle.texts.specs.Text.{Put};
 ghost use Rattle.registers.specs.Block.{image_bytes};

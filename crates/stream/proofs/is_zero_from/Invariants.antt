@@ -1,0 +1,15 @@
+use Rattle.stream.proofs.Loops.{zero_end, zero_broken, zero-onward, word-onward, word_broken}
+use Prim.Native.Nat.{◌-◌}
+use mathlib.Core.Path.{◌≡◌, refl, ◌∙◌}
+use lib.ListN.{drop}
+use Rattle.stream.specs.Calls.{all_zero}
+use native.Mathlib.Omega.{arith}
+use Rattle.stream.proofs.is_zero_from.Given as goal
+
+abbrev pub invariant-loop-i : goal.invariant-loop-i
+invariant-loop-i l =
+    all_zero (drop l.i l.state) ≡ all_zero (drop l.at l.state)
+
+abbrev pub decreases-loop-i : goal.decreases-loop-i
+decreases-loop-i l =
+    32 - l.i
