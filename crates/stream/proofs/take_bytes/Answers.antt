@@ -22,7 +22,7 @@ at_once-requires c = c.loop-i.invariant.few
 pub overflow_add-end : goal.overflow_add-end
 overflow_add-end c =
     let n = some-there c.loop-i.invariant c.loop-i-test.true c.at_once.ensures in
-    record { fits = omega (arith, c.well_formed.part, n.1) }
+    record { fits = omega (arith, c.well_formed.1.1.1.0, n.1) }
 
 pub place_of-place-requires : goal.place_of-place-requires
 place_of-place-requires c = tt
