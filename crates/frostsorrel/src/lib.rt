@@ -1,4 +1,6 @@
 // The C entry points of the model.
+#![tactic(auto)]
+
 ghost use Rattle.rules.specs.Calls.{FreshCall, StepCall, ReadCall, CompareCall};
 ghost use Rattle.explain.specs.Explain.{ExplainCall};
 

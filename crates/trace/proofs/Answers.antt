@@ -29,8 +29,8 @@ record Named (d : Delivery) : Type 0 where
   mailbox : named_by d ≤ 32
   count : count_of d ≤ 32
 
-delivered-small : (s : List ℕ) (f : Frame) → Named (delivery s f)
-delivered-small s f = at (way s f)
+delivered_small : (s : List ℕ) (f : Frame) → Named (delivery s f)
+delivered_small s f = at (way s f)
   where
     at : Way s f (delivery s f) → Named (delivery s f)
     at (off_bus h d) = rw d (record { mailbox = lit≤ tt; count = lit≤ tt })
@@ -47,7 +47,7 @@ module _ (s : List ℕ) (g : good_image s ≡ true) where
   named_small (Refused r) = lit≤ tt
   named_small (Register t v) = lit≤ tt
   named_small (Mailbox n k v) = lit≤ tt
-  named_small (Heard f) = (delivered-small s f).mailbox
+  named_small (Heard f) = (delivered_small s f).mailbox
   named_small Start = next-most s
   named_small (Outcome k) = omega (arith, good-slot s g)
   named_small (ReceiveError v) = lit≤ tt
@@ -62,7 +62,7 @@ module _ (s : List ℕ) (g : good_image s ≡ true) where
   count_small (Refused r) = lit≤ tt
   count_small (Register t v) = lit≤ tt
   count_small (Mailbox n k v) = lit≤ tt
-  count_small (Heard f) = (delivered-small s f).count
+  count_small (Heard f) = (delivered_small s f).count
   count_small Start = lit≤ tt
   count_small (Outcome k) = lit≤ tt
   count_small (ReceiveError v) = lit≤ tt
@@ -93,13 +93,13 @@ module _ (o : Result) (h : Small o) (r : ℕ) (e : r ≡ packed o.refusal o.mail
   pub code_part : r % 256 ≡ o.refusal
   code_part = ap (λ (x : ℕ). x % 256) e ∙ refusal_of o.refusal o.mailbox o.count (omega (arith, h.refusal))
 
-  pub mailbox-part : r / 256 % 256 ≡ o.mailbox
-  mailbox-part =
+  pub mailbox_part : r / 256 % 256 ≡ o.mailbox
+  mailbox_part =
       ap (λ (x : ℕ). x / 256 % 256) e
       ∙ mailbox_of o.refusal o.mailbox o.count (omega (arith, h.refusal)) (omega (arith, h.mailbox))
 
-  pub count-part : r / 65536 ≡ o.count
-  count-part =
+  pub count_part : r / 65536 ≡ o.count
+  count_part =
       ap (λ (x : ℕ). x / 65536) e
       ∙ count_of_lem o.refusal o.mailbox o.count (omega (arith, h.refusal)) (omega (arith, h.mailbox))
 
@@ -107,5 +107,5 @@ module _ (o : Result) (h : Small o) (r : ℕ) (e : r ≡ packed o.refusal o.mail
   pub line_of_lem : (n : ℕ) → line_of n (r % 256) (r / 256 % 256) (r / 65536) ≡ line n o
   line_of_lem n =
       ap (λ (x : ℕ). line_of n x (r / 256 % 256) (r / 65536)) code_part
-      ∙ ap (λ (x : ℕ). line_of n o.refusal x (r / 65536)) mailbox-part
-      ∙ ap (λ (x : ℕ). line_of n o.refusal o.mailbox x) count-part
+      ∙ ap (λ (x : ℕ). line_of n o.refusal x (r / 65536)) mailbox_part
+      ∙ ap (λ (x : ℕ). line_of n o.refusal o.mailbox x) count_part

@@ -18,8 +18,8 @@ enabled : (c : After-test) → bit (block_of c.args.s.now).mc c.args.n ≡ c.tes
 enabled c =
     sym (c.test.ensures ∙ ap (λ (b : Block). bit b.mc c.args.n) c.requires.1)
 
-is-enabled : (c : After-if-not) → bit (block_of c.args.s.now).mc c.args.n ≡ true
-is-enabled c = enabled (goal.at.After-if-not c).After-test ∙ c.if-not-test.false
+is_enabled : (c : After-if-not) → bit (block_of c.args.s.now).mc c.args.n ≡ true
+is_enabled c = enabled (goal.at.After-if-not c).After-test ∙ c.if-not-test.false
 
 receives : (c : After-test-2) → (c.args.f.rtr || bit (block_of c.args.s.now).md c.args.n) ≡ (c.args.f.rtr || c.test-2.result)
 receives c =
@@ -38,7 +38,7 @@ returns-then-not-test c =
 
 pub returns-then-not-f-test : goal.returns-then-not-f-test
 returns-then-not-f-test c =
-    sym (transmits c.args.s.now c.args.f c.args.n (is-enabled (goal.at.returns-then-not-f-test c).After-if-not) (receives (goal.at.returns-then-not-f-test c).After-test-2 ∙ c.if-not-f-test.true))
+    sym (transmits c.args.s.now c.args.f c.args.n (is_enabled (goal.at.returns-then-not-f-test c).After-if-not) (receives (goal.at.returns-then-not-f-test c).After-test-2 ∙ c.if-not-f-test.true))
 
 pub judge-requires : goal.judge-requires
 judge-requires c =
@@ -50,4 +50,4 @@ returns c =
     let g = c.test-3.ensures ∙ ap (λ (w : ℕ). bit w c.args.n) (c.guarded.ensures ∙ ap guarded c.requires.1) in
     c.judge.ensures
     ∙ (λ i. compared_reason (g i) (bit (differed (goal.at.returns c).After-differing-differing i)))
-    ∙ sym (is_compared_lem c.args.s.now c.args.f c.args.n (is-enabled (goal.at.returns c).After-if-not) (receives (goal.at.returns c).After-test-2 ∙ c.if-not-f-test.false))
+    ∙ sym (is_compared_lem c.args.s.now c.args.f c.args.n (is_enabled (goal.at.returns c).After-if-not) (receives (goal.at.returns c).After-test-2 ∙ c.if-not-f-test.false))

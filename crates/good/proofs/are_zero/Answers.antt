@@ -10,8 +10,8 @@ use borrow.Author.Rules.{rules}
 use Rattle.good.proofs.are_zero.Goals as goal
 
 -- two words as one number
-pair-zero : (a b : ℕ) → eqb (a + 4294967296 * b) 0 ≡ (eqb a 0 && eqb b 0)
-pair-zero a b =
+pair_zero : (a b : ℕ) → eqb (a + 4294967296 * b) 0 ≡ (eqb a 0 && eqb b 0)
+pair_zero a b =
     same_test (eqb (a + 4294967296 * b) 0) (eqb a 0 && eqb b 0)
     (λ h.
     let z : a + 4294967296 * b ≡ 0 = eqb-true _ _ h in
@@ -25,4 +25,4 @@ pair-zero a b =
     eq-eqb _ _ z)
 
 pub returns : goal.returns
-returns c = pair-zero c.word_at.result c.word_at-2.result ∙ ap₂ (λ (x y : ℕ). eqb x 0 && eqb y 0) c.word_at.ensures c.word_at-2.ensures
+returns c = pair_zero c.word_at.result c.word_at-2.result ∙ ap₂ (λ (x y : ℕ). eqb x 0 && eqb y 0) c.word_at.ensures c.word_at-2.ensures

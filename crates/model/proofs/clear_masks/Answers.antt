@@ -12,10 +12,10 @@ use Rattle.registers.specs.Block.{masks_at}
 use Rattle.model.specs.Step.{unmasked}
 use Rattle.model.proofs.clear_masks.Goals as goal
 
-zero-at : (k i : ℕ) → ◌≡◌ {A = ℕ} (get_or (replicate k 0) i 0) 0
-zero-at zero i = refl
-zero-at (suc k) zero = refl
-zero-at (suc k) (suc i) = zero-at k i
+zero_at : (k i : ℕ) → ◌≡◌ {A = ℕ} (get_or (replicate k 0) i 0) 0
+zero_at zero i = refl
+zero_at (suc k) zero = refl
+zero_at (suc k) (suc i) = zero_at k i
 
 pub loop-n-init : goal.loop-n-init
 unfolding put_words
@@ -29,7 +29,7 @@ loop-n-preserved c =
       omega arith,
       p.auto.s ∙ l.invariant.1,
       p.ensures
-          ∙ ap₂ (λ (x : List ℕ) (w : ℕ). put_word x (masks_at + 4 * l.n) w) l.invariant.2 (sym (zero-at 32 l.n))
+          ∙ ap₂ (λ (x : List ℕ) (w : ℕ). put_word x (masks_at + 4 * l.n) w) l.invariant.2 (sym (zero_at 32 l.n))
           ∙ sym (put_more s masks_at (replicate 32 0) l.n (omega arith))
           ∙ ap (λ (n : ℕ). put_words s masks_at (take n (replicate 32 0))) (sym (add-one l.n)),
     )

@@ -14,12 +14,12 @@ use Rattle.mailboxes.proofs.filing.spliced.Goals as goal
 unit : (n : ℕ) → n ≤ 8 → n ≢ 8 → 1 * 2 ^ (8 * n) % 2 ^ 64 ≡ 2 ^ (8 * n)
 unit n h l = shl_exact 1 (8 * n) 64 (omega arith) (omega arith) ∙ omega arith
 
-unit-pos : (n : ℕ) → n ≤ 8 → n ≢ 8 → 0 < 1 * 2 ^ (8 * n) % 2 ^ 64
-unit-pos n h l = rw (unit n h l) (pow_pos (8 * n))
+unit_pos : (n : ℕ) → n ≤ 8 → n ≢ 8 → 0 < 1 * 2 ^ (8 * n) % 2 ^ 64
+unit_pos n h l = rw (unit n h l) (pow_pos (8 * n))
 
-spliced-or : (old new n : ℕ) → bit_or (old - old % 2 ^ (8 * n)) (new % 2 ^ (8 * n)) ≡ spliced old new n
+spliced_or : (old new n : ℕ) → bit_or (old - old % 2 ^ (8 * n)) (new % 2 ^ (8 * n)) ≡ spliced old new n
 unfolding spliced
-spliced-or old new n =
+spliced_or old new n =
     let u = 2 ^ (8 * n) in
     let e : old - old % u ≡ old / u * u =
     ap (λ (x : ℕ). x - old % u) (sym (split old (8 * n))) ∙ add-sub_cancel (old / u * u) (old % u) in
@@ -27,27 +27,27 @@ spliced-or old new n =
     ∙ or_below (old / u * u) (new % u) (8 * n) (mul-mod_left (old / u) u) (mod-lt new (pow_pos (8 * n)))
 
 -- all eight bytes are new
-spliced-all : (old new : ℕ) → old < 2 ^ 64 → new < 2 ^ 64 → new ≡ spliced old new 8
+spliced_all : (old new : ℕ) → old < 2 ^ 64 → new < 2 ^ 64 → new ≡ spliced old new 8
 unfolding spliced
-spliced-all old new h l = omega arith
+spliced_all old new h l = omega arith
 
 pub returns-then-n-eq-MOST_DATA_BYTES : goal.returns-then-n-eq-MOST_DATA_BYTES
 returns-then-n-eq-MOST_DATA_BYTES c =
     let a = c.args in
     let f = c.ranges in
-    rw c.if-n-eq-MOST_DATA_BYTES.true (spliced-all a.old a.new f.old.fits f.new.fits)
+    rw c.if-n-eq-MOST_DATA_BYTES.true (spliced_all a.old a.new f.old.fits f.new.fits)
 
 pub nonzero_rem-result : goal.nonzero_rem-result
-nonzero_rem-result c = unit-pos c.args.n c.requires c.if-n-eq-MOST_DATA_BYTES.false
+nonzero_rem-result c = unit_pos c.args.n c.requires c.if-n-eq-MOST_DATA_BYTES.false
 
 pub overflow_sub-result : goal.overflow_sub-result
 overflow_sub-result c = mod-le _ _
 
 pub nonzero_rem-result-2 : goal.nonzero_rem-result-2
-nonzero_rem-result-2 c = unit-pos c.args.n c.requires c.if-n-eq-MOST_DATA_BYTES.false
+nonzero_rem-result-2 c = unit_pos c.args.n c.requires c.if-n-eq-MOST_DATA_BYTES.false
 
 pub returns : goal.returns
 returns c =
     let a = c.args in
     ap (λ (u : ℕ). bit_or (a.old - a.old % u) (a.new % u)) (unit a.n c.requires c.if-n-eq-MOST_DATA_BYTES.false)
-    ∙ spliced-or a.old a.new a.n
+    ∙ spliced_or a.old a.new a.n

@@ -9,14 +9,14 @@ use borrow.Author.Tests.{ne_eqb}
 use borrow.Author.Rules.{rules}
 use Rattle.registers.proofs.Block.conclude.Goals as goal
 
-at-most-8 : (t : Bool) → cond t 8 0 ≤ 8
-at-most-8 true = omega arith
-at-most-8 false = omega arith
+at_most_8 : (t : Bool) → cond t 8 0 ≤ 8
+at_most_8 true = omega arith
+at_most_8 false = omega arith
 
 pub fail-requires : goal.fail-requires
 fail-requires c =
     let a = c.args in
-    let small = at-most-8 (eqb a.kind 2 || eqb a.kind 3 && not (passive a.self)) in
+    let small = at_most_8 (eqb a.kind 2 || eqb a.kind 3 && not (passive a.self)) in
     (c.requires.0, c.requires.1, rw c.added.ensures small)
 
 pub returns-then-kind-eq0 : goal.returns-then-kind-eq0
