@@ -21,7 +21,7 @@ help:
 	@echo 'make bench         the speed of the library beside plain C, ROUNDS=$(ROUNDS) SEED=$(SEED)'
 	@echo 'make install       header, archive, commands, pkg-config file and man pages, PREFIX=$(PREFIX) DESTDIR=$(DESTDIR)'
 	@echo 'make uninstall     takes these away again'
-	@echo 'make clean         removes target/, proofs and all: the next run begins from nothing'
+	@echo 'make clean         removes target/ and crates/*/out, proofs and all'
 
 frostsorrel:
 	@host/build frostsorrel
@@ -54,4 +54,4 @@ uninstall:
 	@host/install --remove
 
 clean:
-	rm -rf target
+	rm -rf target crates/*/out
