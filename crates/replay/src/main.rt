@@ -1,44 +1,57 @@
 // Prints the listing of a trace: of the file that the first argument names, or of standard input where there is none. What
 // cannot be opened or read gets a message on standard error, and nothing is printed.
+#![tactic(auto)]
+
 ghost use Rattle.std.specs.Prelude.{◌≡◌, ◌≤◌, length, take};
-ghost use Rattle.io.specs.Counts.{IsPrefixLen};
 ghost use Rattle.trace.specs.Trace.{listing, longest};
+ghost use Rattle.io.specs.Counts.{IsPrefixLen};
 
-use libc::{STDERR_FILENO, STDIN_FILENO, STDOUT_FILENO};
+use std::env::{Env, FillError};
+use std::fmt::Display;
+use std::io::Read;
+use std::{fs, io};
 
-// How many bytes were read, and whether the end was reached without a failure.
+// How many bytes were read, and the failure that ended the reading before the end, if there was one.
 #[derive(Drop)]
 struct Got {
     count: usize,
-    whole: bool,
+    failure: Option<io::Error>,
 }
 
 // One read. Nothing is read at the end.
-fn read_some(fd: i32, part: &mut [u8]) -> Got
+fn read_some<R: Read>(from: &mut R, part: &mut [u8]) -> Got
     ensures { result.count ≤ length part.old }
 {
-    let got = libc::read(fd, part);
-    Got {
-        count: io::count(got, part),
-        whole: got >= 0,
+    match from.read(part) {
+        Ok(count) => Got {
+            count,
+            failure: None,
+        },
+        Err(failure) => Got {
+            count: 0,
+            failure: Some(failure),
+        },
     }
 }
 
 // Reads until the end, a failure, or a full buffer.
-fn read_all(fd: i32, buf: &mut [u8]) -> Got
+fn read_all<R: Read>(from: &mut R, buf: &mut [u8]) -> Got
     ensures { IsPrefixLen result.count buf.new }
 {
     let mut done: usize = 0;
-    let mut whole = true;
+    let mut failure = None;
     while done < buf.len() {
-        let more = read_some(fd, &mut buf[done..]);
-        whole = more.whole;
+        let more = read_some(from, &mut buf[done..]);
+        failure = more.failure;
         if more.count == 0 {
             break;
         }
         done += more.count;
     }
-    Got { count: done, whole }
+    Got {
+        count: done,
+        failure,
+    }
 }
 
 // The listing of a file's bytes, at the front of bytes that have room for any; how many it has.
@@ -49,48 +62,49 @@ fn list(file: &[u8], out: &mut [u8]) -> usize
     trace::list(file, out)
 }
 
-// The listing of a file's bytes, on standard output.
-fn show(file: &[u8]) {
-    let mut out = [0u8; 39033];
-    let n = list(file, &mut out);
-    if !io::write_all(STDOUT_FILENO, &out[..n]) {
-        os::fail(b"replay: standard output");
-    }
+fn complain<D: Display + Drop>(rt: &HostRuntime, name: &str, why: D) -> io::Result<()> {
+    eprintln!(rt; "replay: {name}: {why}")
 }
 
-fn complain(name: &[u8]) {
-    io::write_all(STDERR_FILENO, b"replay: ");
-    os::fail(name);
+// The listing of a file's bytes, on standard output.
+fn show(rt: &HostRuntime, file: &[u8]) -> io::Result<()> {
+    let mut out = [0u8; 39033];
+    let n = list(file, &mut out);
+    match rt.write_all(&out[..n]) {
+        Ok(()) => Ok(()),
+        Err(why) => complain(rt, "standard output", why),
+    }
 }
 
 // One byte more than the longest trace: of a longer file nothing else matters, since it is refused.
-fn replay(fd: i32, name: &[u8]) {
+fn replay<R: Read>(rt: &HostRuntime, from: &mut R, name: &str) -> io::Result<()> {
     let mut file = [0u8; 48007];
-    let got = read_all(fd, &mut file);
-    if !got.whole {
-        complain(name);
-        return;
+    let got = read_all(from, &mut file);
+    if let Some(why) = got.failure {
+        return complain(rt, name, why);
     }
     let n = got.count;
-    show(&file[..n]);
+    show(rt, &file[..n])
 }
 
-fn main() {
-    if os::arg_count() < 2 {
-        replay(STDIN_FILENO, b"standard input");
-        return;
+fn replay_file(rt: &HostRuntime, name: &str) -> io::Result<()> {
+    match fs::open(rt, name) {
+        Ok(file) => {
+            let mut file = file;
+            replay(rt, &mut file, name)
+        }
+        Err(why) => complain(rt, name, why),
     }
-    let mut path = io::buffer();
-    let length = os::arg(1, &mut path);
-    if os::errno() != 0 {
-        complain(b"the name of the file");
-        return;
+}
+
+fn main(rt: HostRuntime) -> io::Result<()> {
+    let mut path = [0u8; 4096];
+    match rt.arg(1, &mut path) {
+        Ok(length) => match str::from_utf8(&path[..length]) {
+            Ok(name) => replay_file(&rt, name),
+            Err(why) => complain(&rt, "the name of the file", why),
+        },
+        Err(FillError::NotPresent) => replay(&rt, &mut rt.reader(), "standard input"),
+        Err(FillError::TooLong) => complain(&rt, "the name of the file", "File name too long"),
     }
-    let fd = os::open_read(&path[..length]);
-    if fd < 0 {
-        complain(&path[..length]);
-        return;
-    }
-    replay(fd, &path[..length]);
-    libc::close(fd);
 }
