@@ -23,7 +23,6 @@ use Rattle.rules.specs.Words.{words, ◌is◌, MODE}
 use Rattle.rules.specs.Image.{Good, bus_off, on_bus}
 use Rattle.rules.proofs.Good.{good-rule, rule-good}
 use Rattle.rules.proofs.Refusals.{frame_refused}
-use Rattle.explain.specs.declared.Reason.{Reason}
 use Rattle.explain.specs.Explain.{lines, unheard, explained, list_bytes, refusal, ExplainCall}
 use Rattle.explain.specs.Terms.{explained_by}
 use Rattle.explain.proofs.Reasons.{same-order, same-reasons}

@@ -21,12 +21,12 @@ use Rattle.registers.specs.Status.{bus_off}
 use Rattle.registers.specs.Modes.{on_bus}
 use Rattle.events.specs.declared.Frame.{Frame}
 use Rattle.filter.specs.Filter.{seat}
-use Rattle.rules.specs.Words.{Words, among}
+use Rattle.rules.specs.Words.{Words}
 use Rattle.rules.specs.Receiving.{seat as ordered}
 use Rattle.explain.specs.declared.Reason.{Reason}
 use Rattle.explain.specs.declared.Reason.TheVariants.{NotHeard}
 use Rattle.explain.specs.declared.Line.{Line}
-use Rattle.explain.specs.Explain.{number, lines_below, is_matched, line_count, lines, unheard, line_bytes, list_bytes}
+use Rattle.explain.specs.Explain.{lines_below, is_matched, line_count, lines, unheard, line_bytes, list_bytes}
 use Rattle.explain.specs.Terms.{reason_by, explained_by}
 use Rattle.explain.specs.Agreement.{IsTold, InOrder, was_compared, comparisons}
 

@@ -2,7 +2,7 @@
 use Prim.Native.Nat.{ℕ, zero, suc, ◌^◌, ◌<◌, ◌≤◌}
 use mathlib.Core.Path.{◌≡◌, refl, sym, ◌∙◌, ap}
 use mathlib.Core.Bool.{Bool, true, false, cond, not, xor, ◌&&◌, ◌||◌, and-false, false≢true}
-use mathlib.Core.List.{List, [], ◌∷◌}
+use mathlib.Core.List.{List}
 use native.Mathlib.Decide.{ℕ_discrete}
 use native.Mathlib.Omega.{arith}
 use lib.Dec.{eqb, ltb}
@@ -17,7 +17,7 @@ use Rattle.events.specs.Parts.{frame_of}
 use Rattle.filter.specs.Filter.{seat as filter_seat, mask_for, differing, frame_word, matches, takes, hits, passes, compared as filter_compared, guarded as filter_guarded}
 use Rattle.filter.proofs.Matching.{seen, is_compared_bit, compared-bit}
 use Rattle.filter.proofs.Search.{candidate-bit}
-use Rattle.rules.specs.Words.{◌has◌, ◌is◌, words, box, among, MC, MD}
+use Rattle.rules.specs.Words.{◌has◌, ◌is◌, words, box, MC, MD}
 use Rattle.rules.specs.Events.{value, rtr}
 use Rattle.rules.specs.Receiving.{matters, freed, compared, seat, guarded}
 use Rattle.rules.proofs.Receiving.{freed-same, frame_same, guarded-same}

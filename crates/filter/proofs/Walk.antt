@@ -13,7 +13,7 @@ use Rattle.registers.specs.declared.Block.{Block}
 use Rattle.registers.specs.Block.{block_of}
 use Rattle.events.specs.declared.Frame.{Frame}
 use Rattle.filter.specs.declared.Found.TheVariants.{At}
-use Rattle.filter.specs.Filter.{last_mailbox, seat, takes, hits_at, compared_at, compared_before, found}
+use Rattle.filter.specs.Filter.{last_mailbox, seat, hits_at, compared_at, compared_before, found}
 use Rattle.filter.specs.Parts.{takes_by}
 use Rattle.filter.proofs.Rest.{rest_from, low_bit, low-own, low-none, low_less, rest-none, count_same, count-rest, each_rest}
 use Rattle.filter.proofs.Search.{takes_by_gam, hit, not-compared, not_taking, stops}

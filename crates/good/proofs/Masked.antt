@@ -14,7 +14,7 @@ use Rattle.words.specs.Word.{word_at, put_word, put_words}
 use Rattle.words.proofs.Laws.{length-put, word_same, word-other}
 use Rattle.words.proofs.Rows.{words_same, length-put-words}
 use Rattle.words.proofs.Bytes.{bytes-put}
-use Rattle.registers.specs.Block.{image_bytes, registers_at, register_words, masks_at, protection_at, profile_at, block_of, of_parts}
+use Rattle.registers.specs.Block.{registers_at, register_words, masks_at, protection_at, profile_at, block_of, of_parts}
 use Rattle.mailboxes.specs.Mailbox.{mailboxes, layout}
 use Rattle.good.specs.Good.{good_spare, good_mask}
 use Rattle.good.proofs.Image.{GoodImage}

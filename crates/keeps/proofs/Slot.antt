@@ -4,7 +4,6 @@ use mathlib.Core.Path.{◌≡◌, refl}
 use native.Mathlib.Nat.{lt_of_le_of_lt}
 use native.Mathlib.Omega.{arith}
 use borrow.Author.Tests.{eqb-false, eq-eqb, not-true}
-use Rattle.bits.specs.Bit.{bit}
 use Rattle.bits.proofs.Sets.{Within, Apart, within_le, within-zero, within-mask, apart_top}
 use Rattle.registers.specs.declared.Block.{Block}
 use Rattle.registers.specs.Block.{empty_slot}

@@ -8,7 +8,7 @@ use native.Mathlib.Nat.{lt_of_le_of_lt}
 use lib.Dec.{eqb, lit<, lit≤}
 use lib.Bits.{bit_and, bit_or, or_lt}
 use borrow.Author.Tests.{eqb-true, ltb-true, not-false, ne_eqb}
-use Rattle.bits.specs.Bit.{bit, mask, without, set_bit}
+use Rattle.bits.specs.Bit.{bit, mask, without}
 use Rattle.bits.specs.Tests.{top_down}
 use Rattle.bits.proofs.Laws.{bit-without}
 use Rattle.bits.proofs.Sets.{Within, Apart, word-apart, within_le, within_trans, within-or, and-within_l, and-within_r, or-within_l, or-within_r, without-within, within-without, apart_less, apart-or, apart-without, apart_sym, apart-changed, without_lt}

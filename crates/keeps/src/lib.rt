@@ -1,1 +1,3 @@
+#![tactic(auto)]
+
 // No code: theorems that every change of the register block keeps it good.

@@ -1,1 +1,3 @@
+#![tactic(auto)]
+
 // No code: what the error counter of a tool does that nobody acknowledges.

@@ -6,14 +6,14 @@ use mathlib.Core.List.{List, [], ◌∷◌}
 use native.Mathlib.Decide.{dec_lt, ℕ_discrete}
 use native.Mathlib.Omega.{arith}
 use lib.Dec.{eqb, ltb, leb, lit<}
-use lib.Bits.{bit_and, bit_xor}
+use lib.Bits.{bit_and}
 use lib.ListN.{length, get_or-eq_default}
 use borrow.Author.Tests.{eqb-true, eqb-false, eq-eqb, ne_eqb, leb-true, ltb-false, lt-ltb, le-ltb, le-leb, lt-leb}
 use Rattle.bits.specs.Bit.{digit, bit, without, set_bit, mask}
 use Rattle.bits.specs.Below.{all_below}
 use Rattle.bits.specs.Tests.{top_down, gap_down, first_from}
 use Rattle.bits.proofs.Laws.{bit_high, bit-and, bit-or, bit-xor, bit_mask, bit-without}
-use Rattle.bits.proofs.Sets.{and_lt_l, top_up_lem, and_l, and_r}
+use Rattle.bits.proofs.Sets.{and_lt_l, top_up_lem, and_l}
 use Rattle.bits.proofs.Below.{each_below, all_below_lem}
 use Rattle.words.specs.Word.{words_of}
 use Rattle.words.proofs.Bytes.{Bytes, word_lt}

@@ -17,7 +17,7 @@ use Rattle.registers.specs.declared.Block.{Block}
 use Rattle.registers.specs.Block.{with_gif, with_tsc, with_tec, with_rec, with_recovery, of_words}
 use Rattle.fresh.specs.Fresh.{fresh_block}
 use Rattle.registers.specs.Status.{bus_off, passive, asleep}
-use Rattle.registers.specs.Modes.{ticked, overflows, recessive, worsened, asked, optioned, risen, ready, entered, settled, wakes}
+use Rattle.registers.specs.Modes.{ticked, overflows, recessive, worsened, asked, optioned, risen, ready, entered, settled}
 use Rattle.registers.specs.Writes.{slot_mask}
 use Rattle.registers.specs.Sending.{sent, failed, aborting, added, concluded}
 use Rattle.registers.proofs.Flags.{slot-bit, sent-trs, sent-ta, sent-trr, sent-mbtif, aborting-bit, failed-trs, failed-aa, failed-trr, failed-gif, entered-gif, risen-gif, ticked-gif}

@@ -1,1 +1,3 @@
+#![tactic(auto)]
+
 // No code: one run whose books are computed.

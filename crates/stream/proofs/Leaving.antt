@@ -17,7 +17,7 @@ use Rattle.texts.proofs.Writing.{at_front, front_of}
 use Rattle.trace.specs.Trace.{header}
 use Rattle.stream.specs.declared.Reader.{Reader}
 use Rattle.stream.specs.declared.Taken.{Taken as Tally}
-use Rattle.stream.specs.Stream.{Standing, at, behind, over, opened, ended, fed, printed, last_line}
+use Rattle.stream.specs.Stream.{Standing, at, over, opened, ended, fed, printed, last_line}
 use Rattle.stream.specs.Calls.{state_of, standing, seen, Call, refused, prints, unless, opening, fed_call, last_call, Leaves}
 use Rattle.stream.specs.Terms.{reader_of, Ready, Taking}
 use Rattle.stream.proofs.Ready.{steps-few, last-short, printed-most}

@@ -1,6 +1,6 @@
 -- A stream of calls: it hangs on the bytes of the trace alone; 9 exactly where a text does not fit; once it is over nothing changes; and the promise of
 -- each call leaves one outcome.
-use Prim.Native.Nat.{ℕ, ◌+◌, ◌≤◌}
+use Prim.Native.Nat.{ℕ, ◌≤◌}
 use mathlib.Core.Path.{◌≡◌, refl, sym, ◌∙◌, ap, ap₂, subst}
 use mathlib.Core.Bool.{Bool, true, false, cond, not, false≢true}
 use mathlib.Core.List.{List, [], ◌∷◌, ◌++◌, append_assoc, append-nil, flat_map}

@@ -2,7 +2,6 @@ use lib.Pow.{shl_exact}
 use native.Mathlib.Nat.{one-mul}
 use native.Mathlib.Omega.{arith}
 use mathlib.Core.Path.{◌∙◌}
-use borrow.Author.Rules.{rules}
 use Rattle.bits.proofs.mask.Goals as goal
 
 pub returns : goal.returns

@@ -3,7 +3,6 @@ use mathlib.Core.Path.{ap}
 use lib.Dec.{eqb}
 use lib.Bits.{and_mask}
 use Rattle.bits.specs.Bit.{digit}
-use borrow.Author.Rules.{rules}
 use Rattle.bits.proofs.test.Goals as goal
 
 pub returns : goal.returns

@@ -1,4 +1,3 @@
-use borrow.Author.Rules.{rules}
 use Rattle.texts.proofs.Writing.{both_put}
 use Rattle.compare.proofs.put_entry.Goals as goal
 

@@ -1,15 +1,7 @@
-use Prim.Native.Nat.{ℕ, ◌+◌, ◌-◌, ◌*◌, ◌%◌, ◌≤◌}
-use mathlib.Core.Path.{◌≡◌, refl, sym, ◌∙◌, ap}
-use mathlib.Core.List.{List, ◌++◌}
-use mathlib.Core.Logic.{⊎_elim}
-use native.Mathlib.Omega.{arith}
-use lib.ListN.{length, length-append}
-use borrow.Author.Tests.{not-false}
-use Rattle.texts.specs.Text.{written, Put}
-use Rattle.texts.proofs.Writing.{as_text, both_put, kept}
-use Rattle.compare.specs.Compare.{image_words, differences_below, differences, list_bytes}
-use Rattle.compare.specs.Terms.{two_bytes, four_bytes}
-use Rattle.compare.proofs.Below.{below_most, pass_four, two_more, four_more, list_none, length_list}
+use Prim.Native.Nat.{◌+◌, ◌-◌, ◌%◌, ◌≤◌}
+use mathlib.Core.Path.{◌≡◌}
+use Rattle.texts.specs.Text.{Put}
+use Rattle.compare.specs.Compare.{image_words, differences_below, list_bytes}
 use Rattle.compare.proofs.put_list.Given as goal
 
 abbrev pub invariant-loop-k : goal.invariant-loop-k

@@ -1,6 +1,5 @@
 use Prim.Native.Nat.{◌+◌}
 use native.Mathlib.Omega.{arith}
-use borrow.Author.Rules.{rules}
 use Rattle.texts.proofs.Writing.{both_put, room, front}
 use Rattle.compare.specs.Terms.{one_bytes}
 use Rattle.compare.proofs.put_two.Goals as goal

@@ -3,7 +3,6 @@ use mathlib.Core.Path.{◌≡◌, sym, ◌∙◌, ap}
 use mathlib.Core.List.{List}
 use native.Mathlib.Omega.{arith}
 use lib.ListN.{length, take}
-use borrow.Author.Rules.{rules}
 use Rattle.answers.proofs.Lists.{fitted_as}
 use Rattle.texts.proofs.Writing.{front_of, kept}
 use Rattle.compare.specs.Compare.{differences, list_bytes}

@@ -1,7 +1,6 @@
 use mathlib.Core.Path.{sym, ◌∙◌}
 use Rattle.events.specs.Decode.{decoded_as}
 use Rattle.events.proofs.Laws.{operations, decoded_as_lem, decoded_long, decoded-none, none_below, plain_or, any-profile}
-use borrow.Author.Rules.{rules}
 use Rattle.events.proofs.decode.Goals as goal
 
 pub returns-then-e-ne16 : goal.returns-then-e-ne16

@@ -4,7 +4,6 @@ use lib.Dec.{leb}
 use Rattle.events.specs.Decode.{decoded_as}
 use Rattle.events.proofs.Laws.{allowed_or}
 use mathlib.Core.Path.{◌∙◌}
-use borrow.Author.Rules.{rules}
 use Rattle.events.proofs.mode_event.Goals as goal
 
 pub returns : goal.returns

@@ -3,7 +3,6 @@ use Rattle.events.specs.declared.Event.TheVariants.{Outcome}
 use Rattle.events.specs.Decode.{decoded_as}
 use Rattle.events.proofs.Laws.{quiet_or}
 use mathlib.Core.Path.{◌∙◌}
-use borrow.Author.Rules.{rules}
 use Rattle.events.proofs.outcome_event.Goals as goal
 
 pub returns-then-not-kind : goal.returns-then-not-kind

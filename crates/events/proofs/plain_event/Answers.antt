@@ -1,4 +1,3 @@
-use borrow.Author.Rules.{rules}
 use Rattle.events.proofs.plain_event.Goals as goal
 
 pub returns : goal.returns

@@ -2,7 +2,6 @@ use Prim.Native.Nat.{ℕ, ◌^◌, ◌<◌}
 use mathlib.Core.Path.{◌≡◌, refl, sym, ◌∙◌, ap, subst}
 use mathlib.Core.Bool.{true}
 use native.Mathlib.Omega.{arith}
-use borrow.Author.Tests.{not-true, not-false}
 use Rattle.words.specs.Bytes.{Bytes}
 use Rattle.answers.specs.Answer.{no_mailbox, packed}
 use Rattle.good.specs.Good.{good_image}
@@ -11,7 +10,6 @@ use Rattle.events.specs.declared.Frame.{Frame}
 use Rattle.explain.specs.Terms.{explained_by}
 use Rattle.explain.proofs.Lines.{same-fitted}
 use Rattle.explain.proofs.Call.{a_frame_long, identifier-fits, image-refused, event-refused, lines-told}
-use borrow.Author.Rules.{rules}
 use Rattle.explain.proofs.explain.Goals.{After-good_image, Else-not-good_image}
 use Rattle.explain.proofs.explain.Goals as goal
 

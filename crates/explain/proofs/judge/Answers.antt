@@ -6,7 +6,6 @@ use Rattle.bits.specs.Bit.{bit}
 use Rattle.explain.specs.declared.Reason.TheVariants.{BitDiffers}
 use Rattle.explain.specs.Explain.{bit_reason}
 use Rattle.explain.proofs.Reasons.{by_highest, by_ide, by_bits, by_none}
-use borrow.Author.Rules.{rules}
 use Rattle.explain.proofs.judge.Goals.{After-highest, After-if}
 use Rattle.explain.proofs.judge.Goals as goal
 

@@ -3,7 +3,6 @@ use mathlib.Core.Path.{◌∙◌, ap}
 use mathlib.Core.Bool.{cond}
 use Rattle.registers.specs.Block.{mask_word}
 use Rattle.registers.specs.Status.{ecan}
-use borrow.Author.Rules.{rules}
 use Rattle.explain.proofs.mask_of.Goals as goal
 
 pub returns : goal.returns

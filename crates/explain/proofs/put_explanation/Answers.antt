@@ -8,7 +8,6 @@ use Rattle.registers.specs.Modes.{on_bus}
 use Rattle.texts.proofs.Writing.{as_text}
 use Rattle.explain.specs.Explain.{unheard, list_bytes}
 use Rattle.explain.proofs.Lines.{heard-lines, unheard-lines}
-use borrow.Author.Rules.{rules}
 use Rattle.explain.proofs.put_explanation.Goals as goal
 
 pub put_unheard-requires : goal.put_unheard-requires

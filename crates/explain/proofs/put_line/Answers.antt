@@ -4,7 +4,6 @@ use mathlib.Core.List.{[], ◌∷◌}
 use native.Mathlib.Omega.{arith}
 use Rattle.texts.proofs.Writing.{as_text, both_put}
 use Rattle.explain.proofs.Lines.{line-words}
-use borrow.Author.Rules.{rules}
 use Rattle.explain.proofs.put_line.Goals as goal
 
 pub returns : goal.returns

@@ -1,9 +1,7 @@
-use Prim.Native.Nat.{ℕ, ◌+◌, ◌-◌, ◌<◌, ◌≤◌}
+use Prim.Native.Nat.{ℕ, ◌+◌, ◌<◌, ◌≤◌}
 use mathlib.Core.Path.{◌≡◌, refl, sym, ◌∙◌, ap}
-use mathlib.Core.Bool.{false}
 use native.Mathlib.Omega.{arith}
 use lib.ListN.{length}
-use borrow.Author.Rules.{rules}
 use borrow.Author.Tests.{eq-eqb, ne_eqb}
 use borrow.Author.Count.{below_none as below-first, below_more}
 use Rattle.texts.specs.Text.{written, Put}
@@ -13,9 +11,9 @@ use Rattle.registers.specs.Block.{block_of}
 use Rattle.filter.specs.Filter.{seat}
 use Rattle.filter.proofs.Search.{seat_lt}
 use Rattle.explain.specs.declared.Reason.{Reason}
-use Rattle.explain.specs.Explain.{number, lines_below, is_matched, line_bytes, list_bytes}
+use Rattle.explain.specs.Explain.{number, lines_below, line_bytes, list_bytes}
 use Rattle.explain.specs.Terms.{reason_by}
-use Rattle.explain.proofs.Lines.{matched_at, text-next, none_below, below_bytes, matched-ends, none-ends}
+use Rattle.explain.proofs.Lines.{text-next, none_below, below_bytes, matched-ends, none-ends}
 use Rattle.explain.proofs.put_lines.Goals.{After-number, After-seat-n}
 use Rattle.explain.proofs.put_lines.Goals as goal
 

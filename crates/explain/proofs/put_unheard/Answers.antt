@@ -7,7 +7,6 @@ use Rattle.texts.proofs.Writing.{as_text}
 use Rattle.explain.specs.declared.Reason.TheVariants.{NotHeard}
 use Rattle.explain.specs.Explain.{line_bytes}
 use Rattle.explain.proofs.Lines.{unheard-bytes, state-small}
-use borrow.Author.Rules.{rules}
 use Rattle.explain.proofs.put_unheard.Goals as goal
 
 pub overflow_cast-state : goal.overflow_cast-state

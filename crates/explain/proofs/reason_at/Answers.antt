@@ -1,7 +1,6 @@
 use Prim.Native.Nat.{ℕ}
 use mathlib.Core.Path.{◌≡◌, sym, ◌∙◌, ap}
 use mathlib.Core.Bool.{Bool, true, ◌||◌}
-use borrow.Author.Tests.{not-true, not-false}
 use Rattle.bits.specs.Bit.{bit}
 use Rattle.registers.specs.declared.Block.{Block}
 use Rattle.registers.specs.Block.{block_of}
@@ -9,7 +8,6 @@ use Rattle.mailboxes.specs.Mailbox.{mailbox_word}
 use Rattle.filter.specs.Filter.{mask_for, differing, guarded}
 use Rattle.explain.specs.Explain.{compared_reason}
 use Rattle.explain.proofs.Reasons.{differing_at, gap_30, gap_29, is_disabled, transmits, is_compared_lem}
-use borrow.Author.Rules.{rules}
 use Rattle.explain.proofs.reason_at.Goals.{After-differing-differing, After-if-not, After-test, After-test-2}
 use Rattle.explain.proofs.reason_at.Goals as goal
 

@@ -1,4 +1,4 @@
-use Prim.Native.Nat.{◌*◌, ◌/◌, ◌≤◌}
+use Prim.Native.Nat.{◌*◌, ◌/◌}
 use mathlib.Core.Path.{◌≡◌, ◌∙◌, ap}
 use native.Mathlib.Omega.{arith}
 use lib.ListN.{length}
@@ -6,7 +6,6 @@ use Rattle.answers.specs.Answer.{no_mailbox, packed}
 use Rattle.texts.proofs.Writing.{put_down}
 use Rattle.explain.specs.Terms.{explained_by}
 use Rattle.explain.proofs.Lines.{text-length, explained-most}
-use borrow.Author.Rules.{rules}
 use Rattle.explain.proofs.tell.Goals.{After-put_explanation-end}
 use Rattle.explain.proofs.tell.Goals as goal
 

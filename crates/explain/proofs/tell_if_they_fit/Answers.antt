@@ -7,7 +7,6 @@ use Rattle.texts.proofs.Writing.{front_of, kept}
 use Rattle.explain.specs.Explain.{list_bytes}
 use Rattle.explain.specs.Terms.{explained_by}
 use Rattle.explain.proofs.Lines.{text-length, explained-most}
-use borrow.Author.Rules.{rules}
 use Rattle.explain.proofs.tell_if_they_fit.Goals.{After-put_explanation-end}
 use Rattle.explain.proofs.tell_if_they_fit.Goals as goal
 

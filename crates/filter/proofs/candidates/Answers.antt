@@ -1,5 +1,4 @@
 use Rattle.filter.specs.Filter.{candidates}
-use borrow.Author.Rules.{rules}
 use Rattle.filter.proofs.candidates.Goals as goal
 
 pub returns : goal.returns

@@ -1,8 +1,6 @@
 use mathlib.Core.Path.{sym, ◌∙◌}
-use borrow.Author.Tests.{not-true, not-false}
 use Rattle.filter.proofs.Search.{found-at}
 use Rattle.filter.proofs.Ways.{heard_by, unheard, taken, nothing-found}
-use borrow.Author.Rules.{rules}
 use Rattle.filter.proofs.deliver.Goals as goal
 
 pub returns-then-not-is_on_bus : goal.returns-then-not-is_on_bus

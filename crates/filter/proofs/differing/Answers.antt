@@ -2,7 +2,6 @@ use mathlib.Core.Path.{◌∙◌, ap}
 use mathlib.Core.Bool.{Bool, cond}
 use lib.Bits.{bit_and, bit_xor}
 use Rattle.bits.specs.Bit.{without}
-use borrow.Author.Rules.{rules}
 use Rattle.filter.proofs.differing.Goals as goal
 
 pub returns : goal.returns

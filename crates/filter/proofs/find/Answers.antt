@@ -8,7 +8,7 @@ use Rattle.bits.specs.Bit.{bit}
 use Rattle.registers.specs.declared.Block.{Block}
 use Rattle.filter.specs.declared.Found.TheVariants.{At}
 use Rattle.filter.specs.Filter.{candidates, last_mailbox, seat, compared_at}
-use Rattle.filter.proofs.Rest.{rest_from, rest_all, rest_more, bit-here, bit-after, both_passed}
+use Rattle.filter.proofs.Rest.{rest_all, rest_more, bit-here, bit-after, both_passed}
 use Rattle.filter.proofs.Walk.{Walked, walk_starts, walked_most, passes_over, passes_by, stops_at, walk_counted, walk_none}
 use Rattle.filter.proofs.find.Goals.{After-turned-pool, Else-rest-eq0, Joined-rest-eq1, then-rest-eq1+else-takes, else-rest-eq1, then-rest-eq1-2+else-takes-2, else-rest-eq1-2}
 use Rattle.filter.proofs.find.Goals as goal

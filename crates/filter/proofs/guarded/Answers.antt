@@ -2,7 +2,6 @@ use mathlib.Core.Path.{◌∙◌, ap}
 use mathlib.Core.Bool.{Bool, cond}
 use lib.Bits.{bit_and}
 use Rattle.filter.specs.Filter.{guarded}
-use borrow.Author.Rules.{rules}
 use Rattle.filter.proofs.guarded.Goals as goal
 
 pub returns : goal.returns

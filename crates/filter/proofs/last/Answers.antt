@@ -11,7 +11,6 @@ use Rattle.registers.specs.Block.{block_of}
 use Rattle.filter.specs.declared.Found.TheVariants.{At, Missing}
 use Rattle.filter.specs.Filter.{last_mailbox, seat, takes, compared_at}
 use Rattle.filter.proofs.Search.{takes_by_lam, hit, not-compared, not_taking, stops, passes}
-use borrow.Author.Rules.{rules}
 use Rattle.filter.proofs.last.Goals as goal
 
 pub returns-then-pool-lt2147483648 : goal.returns-then-pool-lt2147483648

@@ -1,7 +1,6 @@
 use mathlib.Core.Path.{sym, ◌∙◌, ap}
 use mathlib.Core.Bool.{Bool, cond}
 use Rattle.registers.specs.Block.{mask_word}
-use borrow.Author.Rules.{rules}
 use Rattle.filter.proofs.mask_at.Goals as goal
 
 pub returns-then-is_ecan : goal.returns-then-is_ecan

@@ -1,6 +1,5 @@
 use mathlib.Core.Path.{sym, ◌∙◌}
 use Rattle.filter.proofs.Ways.{receives_by, stored_at, replied-at, ignored-at}
-use borrow.Author.Rules.{rules}
 use Rattle.filter.proofs.place_at.Goals as goal
 
 pub returns-then-test : goal.returns-then-test

@@ -1,7 +1,5 @@
-use Prim.Native.Nat.{◌-◌}
 use native.Mathlib.Omega.{arith}
-use borrow.Author.Rules.{rules}
-use Rattle.filter.proofs.Turning.{Halved, half_starts, half_more, half_ends}
+use Rattle.filter.proofs.Turning.{half_starts, half_more, half_ends}
 use Rattle.filter.proofs.reversed.Goals as goal
 
 pub loop-i-init : goal.loop-i-init

@@ -1,7 +1,5 @@
 use Prim.Native.Nat.{◌-◌}
-use native.Mathlib.Omega.{arith}
-use borrow.Author.Rules.{rules}
-use Rattle.filter.proofs.Turning.{Halved, half_starts, half_more, half_ends}
+use Rattle.filter.proofs.Turning.{Halved}
 use Rattle.filter.proofs.reversed.Given as goal
 
 abbrev pub invariant-loop-i : goal.invariant-loop-i

@@ -2,7 +2,6 @@ use Prim.Native.Nat.{◌-◌}
 use mathlib.Core.Path.{◌∙◌, ap}
 use mathlib.Core.Bool.{Bool, cond}
 use Rattle.filter.specs.Filter.{last_mailbox, seat}
-use borrow.Author.Rules.{rules}
 use Rattle.filter.proofs.seat.Goals as goal
 
 pub returns : goal.returns

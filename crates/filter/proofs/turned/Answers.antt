@@ -1,7 +1,6 @@
 use mathlib.Core.Path.{sym, ◌∙◌, ap}
 use Rattle.bits.specs.Bit.{bit}
 use Rattle.filter.proofs.Search.{seat-up, seat_down}
-use borrow.Author.Rules.{rules}
 use Rattle.filter.proofs.turned.Goals as goal
 
 pub returns-then-is_ecan : goal.returns-then-is_ecan

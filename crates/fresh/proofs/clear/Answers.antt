@@ -1,9 +1,9 @@
 use borrow.Author.Fill.{fill_none, fill_more}
-use Prim.Native.Nat.{ℕ, ◌-◌, ◌≤◌}
+use Prim.Native.Nat.{ℕ}
 use mathlib.Core.Path.{◌≡◌, refl, sym, ◌∙◌, ap}
 use mathlib.Core.List.{List, ◌++◌, append-nil}
 use native.Mathlib.Omega.{arith}
-use lib.ListN.{length, replicate, drop, set, length-set, drop_of_length-le}
+use lib.ListN.{length, replicate, set, length-set, drop_of_length-le}
 use borrow.Author.Rules.{rules}
 use Rattle.fresh.proofs.clear.Goals as goal
 

@@ -1,6 +1,5 @@
 use mathlib.Core.Path.{◌∙◌, ap}
 use Rattle.registers.specs.Block.{put_block}
-use borrow.Author.Rules.{rules}
 use Rattle.fresh.proofs.fill_registers.Goals as goal
 
 pub returns : goal.returns

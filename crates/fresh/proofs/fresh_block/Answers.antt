@@ -2,7 +2,6 @@ use Prim.Native.Nat.{ℕ}
 use mathlib.Core.Path.{ap}
 use Rattle.registers.specs.Block.{with_md, with_mode, with_waiting, with_slot, with_profile, configuration, no_mode, empty_slot}
 use Rattle.fresh.specs.Fresh.{zero_block, fresh_block}
-use borrow.Author.Rules.{rules}
 use Rattle.fresh.proofs.fresh_block.Goals as goal
 
 pub returns : goal.returns

@@ -1,4 +1,3 @@
-use borrow.Author.Rules.{rules}
 use native.Mathlib.Omega.{arith}
 use Rattle.rules.proofs.Calls.{compare_call}
 use Rattle.frostsorrel.proofs.frostsorrel_compare.Goals as goal

@@ -1,4 +1,3 @@
-use borrow.Author.Rules.{rules}
 use Rattle.rules.proofs.Calls.{fresh_call}
 use Rattle.frostsorrel.proofs.frostsorrel_fresh.Goals as goal
 

@@ -1,4 +1,3 @@
-use borrow.Author.Rules.{rules}
 use native.Mathlib.Omega.{arith}
 use Rattle.rules.proofs.Calls.{step_call}
 use Rattle.frostsorrel.proofs.frostsorrel_step.Goals as goal

@@ -6,7 +6,6 @@ use lib.Dec.{eqb}
 use borrow.Author.Tests.{eqb-true, eq-eqb}
 use Rattle.bits.proofs.Sets.{both, and_l, and_r}
 use Rattle.bits.proofs.Tests.{same_test}
-use borrow.Author.Rules.{rules}
 use Rattle.good.proofs.are_zero.Goals as goal
 
 -- two words as one number

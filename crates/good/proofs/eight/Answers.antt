@@ -3,7 +3,6 @@ use native.Mathlib.Omega.{arith}
 use Rattle.mailboxes.specs.Mailbox.{layout}
 use Rattle.good.specs.Gathered.{clean}
 use Rattle.good.proofs.Stretches.{joins}
-use borrow.Author.Rules.{rules}
 use Rattle.good.proofs.eight.Goals as goal
 
 pub returns : goal.returns

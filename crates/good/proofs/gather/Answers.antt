@@ -1,5 +1,4 @@
 use Rattle.mailboxes.specs.Mailbox.{layout}
-use borrow.Author.Rules.{rules}
 use Rattle.good.proofs.gather.Goals as goal
 
 pub returns : goal.returns

@@ -1,7 +1,6 @@
 use mathlib.Core.Path.{sym}
 use Rattle.good.specs.Good.{good_block}
 use Rattle.good.proofs.Facts.{slot_too_high}
-use borrow.Author.Rules.{rules}
 use Rattle.good.proofs.good_block.Goals as goal
 
 pub returns-then-b-gt-EMPTY_SLOT : goal.returns-then-b-gt-EMPTY_SLOT

@@ -1,7 +1,6 @@
 use borrow.Author.Tests.{ne_eqb, eq-eqb}
 use Rattle.registers.specs.Block.{image_bytes}
 use Rattle.good.specs.Good.{good_image}
-use borrow.Author.Rules.{rules}
 use Rattle.good.proofs.good_image.Goals as goal
 
 pub returns-then-s-ne-IMAGE_BYTES : goal.returns-then-s-ne-IMAGE_BYTES

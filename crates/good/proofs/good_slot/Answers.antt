@@ -1,5 +1,4 @@
 use Rattle.good.specs.Good.{good_slot}
-use borrow.Author.Rules.{rules}
 use Rattle.good.proofs.good_slot.Goals as goal
 
 pub returns : goal.returns

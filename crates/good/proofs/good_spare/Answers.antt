@@ -1,8 +1,6 @@
 use mathlib.Core.Path.{◌≡◌, sym, ◌∙◌}
 use mathlib.Core.Bool.{Bool, true, false, ◌&&◌}
-use borrow.Author.Tests.{not-true, not-false}
 use Rattle.good.specs.Good.{good_spare}
-use borrow.Author.Rules.{rules}
 use Rattle.good.proofs.good_spare.Goals as goal
 
 -- the first two words decide, or leave it to the others

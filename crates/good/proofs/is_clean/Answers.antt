@@ -3,7 +3,6 @@ use mathlib.Core.Path.{◌∙◌, ap}
 use mathlib.Core.Bool.{Bool, ◌&&◌}
 use lib.Dec.{ltb}
 use Rattle.good.proofs.Stretches.{or-ltb, control_above}
-use borrow.Author.Rules.{rules}
 use Rattle.good.proofs.is_clean.Goals as goal
 
 pub returns : goal.returns

@@ -6,7 +6,6 @@ use Rattle.bits.specs.Tests.{gap_down}
 use Rattle.words.specs.Word.{word_at}
 use Rattle.registers.specs.Block.{masks_at}
 use Rattle.good.proofs.Masks.{bare_pair}
-use borrow.Author.Rules.{rules}
 use Rattle.good.proofs.pair.Goals as goal
 
 pub returns : goal.returns

@@ -3,7 +3,6 @@ use native.Mathlib.Omega.{arith}
 use Rattle.mailboxes.specs.Mailbox.{layout}
 use Rattle.good.specs.Gathered.{clean}
 use Rattle.good.proofs.Stretches.{alone, joins}
-use borrow.Author.Rules.{rules}
 use Rattle.good.proofs.two.Goals as goal
 
 pub returns : goal.returns

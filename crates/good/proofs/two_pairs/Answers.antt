@@ -3,7 +3,6 @@ use native.Mathlib.Omega.{arith}
 use Rattle.good.specs.Gathered.{bare, good_pair}
 use Rattle.good.proofs.Stretches.{alone, joins}
 use Rattle.good.proofs.Masks.{bare-or}
-use borrow.Author.Rules.{rules}
 use Rattle.good.proofs.two_pairs.Goals as goal
 
 pub returns : goal.returns

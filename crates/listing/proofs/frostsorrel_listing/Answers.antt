@@ -1,4 +1,3 @@
-use borrow.Author.Rules.{rules}
 use native.Mathlib.Omega.{arith}
 use Rattle.rules.proofs.Calls.{listing_call}
 use Rattle.listing.proofs.frostsorrel_listing.Goals as goal

@@ -1,4 +1,3 @@
-use borrow.Author.Rules.{rules}
 use Rattle.mailboxes.proofs.identifier_layout.Goals as goal
 
 pub returns : goal.returns

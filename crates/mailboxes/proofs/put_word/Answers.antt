@@ -1,7 +1,6 @@
 use Prim.Native.Nat.{◌*◌}
 use Rattle.words.specs.Word.{put_word}
 use Rattle.mailboxes.proofs.Laws.{lent}
-use borrow.Author.Rules.{rules}
 use Rattle.mailboxes.proofs.put_word.Goals as goal
 
 pub returns : goal.returns

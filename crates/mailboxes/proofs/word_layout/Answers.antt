@@ -1,6 +1,5 @@
 use mathlib.Core.Path.{sym}
 use Rattle.mailboxes.proofs.Laws.{data_free}
-use borrow.Author.Rules.{rules}
 use Rattle.mailboxes.proofs.word_layout.Goals as goal
 
 pub returns-in-0 : goal.returns-in-0

@@ -1,7 +1,6 @@
 use Rattle.events.specs.declared.Event.TheVariants.{Refused, Register, Mailbox, Heard, Start, Outcome, ReceiveError, Recessive, Tick, Mode, Options, Reset}
 use Rattle.model.specs.Parts.{Sized}
 use Rattle.model.proofs.Meets.{as_case}
-use borrow.Author.Rules.{rules}
 use Rattle.model.proofs.act.Goals as goal
 
 pub write_mailbox-requires : goal.write_mailbox-requires

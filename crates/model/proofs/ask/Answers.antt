@@ -5,7 +5,6 @@ use Rattle.registers.specs.Modes.{asked, risen}
 use Rattle.events.specs.declared.Event.TheVariants.{Mode}
 use Rattle.model.specs.Step.{own, goes, beside_after, named}
 use Rattle.model.proofs.Meets.{acts}
-use borrow.Author.Rules.{rules}
 use Rattle.model.proofs.ask.Goals as goal
 
 pub returns : goal.returns

@@ -1,15 +1,8 @@
-use borrow.Author.Rules.{rules}
-use Prim.Native.Nat.{ℕ, zero, suc, ◌+◌, ◌*◌, ◌-◌, ◌≤◌}
-use mathlib.Core.Path.{◌≡◌, refl, sym, ◌∙◌, ap, ap₂}
-use native.Mathlib.Omega.{arith}
-use native.Mathlib.Numerals.{add-one}
-use mathlib.Core.List.{List}
-use lib.ListN.{length, get_or, take, replicate}
-use lib.Seq.{take_all}
-use Rattle.words.specs.Word.{put_word, put_words}
-use Rattle.words.proofs.Rows.{put_more}
+use Prim.Native.Nat.{◌-◌, ◌≤◌}
+use mathlib.Core.Path.{◌≡◌}
+use lib.ListN.{length, take, replicate}
+use Rattle.words.specs.Word.{put_words}
 use Rattle.registers.specs.Block.{masks_at}
-use Rattle.model.specs.Step.{unmasked}
 use Rattle.model.proofs.clear_masks.Given as goal
 
 abbrev pub invariant-loop-n : goal.invariant-loop-n

@@ -10,7 +10,6 @@ use Rattle.answers.specs.Answer.{packed}
 use Rattle.model.specs.Step.{postmarked, own, goes, beside_after, named}
 use Rattle.model.proofs.Meets.{acts}
 use Rattle.model.proofs.Beside.{postmarked_beside}
-use borrow.Author.Rules.{rules}
 use Rattle.model.proofs.conclude.Goals as goal
 
 pub conclude-requires : goal.conclude-requires

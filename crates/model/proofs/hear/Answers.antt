@@ -2,7 +2,6 @@ use mathlib.Core.Path.{sym, ◌∙◌}
 use Rattle.filter.specs.declared.Delivery.TheVariants.{Into, Reply, Nowhere}
 use Rattle.filter.proofs.Ways.{into, reply}
 use Rattle.model.proofs.Meets.{heard_as}
-use borrow.Author.Rules.{rules}
 use Rattle.model.proofs.hear.Goals as goal
 
 pub store-requires : goal.store-requires

@@ -3,7 +3,6 @@ use Rattle.registers.specs.Block.{put_block}
 use Rattle.filter.specs.declared.Delivery.TheVariants.{Nowhere}
 use Rattle.model.specs.Step.{delivered, stowed}
 use Rattle.model.proofs.Meets.{delivers}
-use borrow.Author.Rules.{rules}
 use Rattle.model.proofs.miss.Goals as goal
 
 pub returns : goal.returns

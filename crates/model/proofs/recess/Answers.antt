@@ -4,7 +4,6 @@ use Rattle.registers.specs.Modes.{recessive, risen}
 use Rattle.events.specs.declared.Event.TheVariants.{Recessive}
 use Rattle.model.specs.Step.{own, goes, beside_after, named}
 use Rattle.model.proofs.Meets.{acts}
-use borrow.Author.Rules.{rules}
 use Rattle.model.proofs.recess.Goals as goal
 
 pub recess-requires : goal.recess-requires

@@ -5,7 +5,6 @@ use Rattle.registers.specs.Frames.{replied}
 use Rattle.filter.specs.declared.Delivery.TheVariants.{Reply}
 use Rattle.model.specs.Step.{delivered, stowed}
 use Rattle.model.proofs.Meets.{delivers}
-use borrow.Author.Rules.{rules}
 use Rattle.model.proofs.reply.Goals as goal
 
 pub returns : goal.returns

@@ -7,7 +7,6 @@ use Rattle.events.specs.declared.Event.TheVariants.{Reset}
 use Rattle.model.specs.Step.{own, goes, unmasked, beside_after, named}
 use Rattle.model.proofs.Meets.{acts}
 use Rattle.model.proofs.Beside.{unmasked_beside}
-use borrow.Author.Rules.{rules}
 use Rattle.model.proofs.reset.Goals as goal
 
 pub returns : goal.returns

@@ -6,7 +6,6 @@ use borrow.Author.Tests.{eq-eqb, ne_eqb}
 use Rattle.registers.specs.declared.Block.{Block}
 use Rattle.registers.specs.Block.{put_block, no_mode}
 use Rattle.registers.specs.Modes.{settled}
-use borrow.Author.Rules.{rules}
 use Rattle.model.proofs.settle.Goals as goal
 
 pub returns-then-b-ne4 : goal.returns-then-b-ne4

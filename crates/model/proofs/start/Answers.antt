@@ -8,7 +8,6 @@ use Rattle.sending.specs.Choice.{next}
 use Rattle.answers.specs.Answer.{packed}
 use Rattle.model.specs.Step.{started_with, own, goes, beside_after, named}
 use Rattle.model.proofs.Meets.{acts}
-use borrow.Author.Rules.{rules}
 use Rattle.model.proofs.start.Goals as goal
 
 pub returns : goal.returns

@@ -1,5 +1,4 @@
 use borrow.Author.Tests.{lt-ltb, le-ltb}
-use borrow.Author.Rules.{rules}
 use Rattle.model.proofs.started_with.Goals as goal
 
 pub returns-then-n-lt32 : goal.returns-then-n-lt32

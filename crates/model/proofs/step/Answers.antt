@@ -1,7 +1,7 @@
 use native.Mathlib.Omega.{arith}
 use mathlib.Core.Path.{◌≡◌, refl, sym, ◌∙◌, ap, ap₂}
 use mathlib.Core.Bool.{Bool}
-use borrow.Author.Tests.{not-true, not-false, ne_eqb}
+use borrow.Author.Tests.{ne_eqb}
 use Rattle.words.proofs.Bytes.{Bytes}
 use Rattle.registers.specs.Status.{ecan, asleep}
 use Rattle.events.specs.Decode.{decoded, event}
@@ -12,7 +12,6 @@ use Rattle.model.specs.Step.{step}
 use Rattle.model.proofs.Meets.{as_case}
 use Rattle.model.proofs.Whole.{loaded, sized, fitting, unrefused, real}
 use Rattle.model.proofs.Ends.{ends}
-use borrow.Author.Rules.{rules}
 use Rattle.model.proofs.step.Goals as goal
 
 pub returns-then-not-good_image : goal.returns-then-not-good_image

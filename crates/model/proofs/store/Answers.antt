@@ -10,7 +10,6 @@ use Rattle.filter.specs.declared.Delivery.TheVariants.{Into}
 use Rattle.model.specs.Step.{delivered, stowed}
 use Rattle.model.proofs.Meets.{delivers}
 use Rattle.model.proofs.Beside.{filed_beside}
-use borrow.Author.Rules.{rules}
 use Rattle.model.proofs.store.Goals as goal
 
 pub put_frame-requires : goal.put_frame-requires

@@ -4,7 +4,6 @@ use Rattle.registers.specs.Modes.{ticked, risen}
 use Rattle.events.specs.declared.Event.TheVariants.{Tick}
 use Rattle.model.specs.Step.{own, goes, beside_after, named}
 use Rattle.model.proofs.Meets.{acts}
-use borrow.Author.Rules.{rules}
 use Rattle.model.proofs.tick.Goals as goal
 
 pub tick-requires : goal.tick-requires

@@ -5,7 +5,6 @@ use Rattle.registers.specs.Modes.{worsened, risen}
 use Rattle.events.specs.declared.Event.TheVariants.{ReceiveError}
 use Rattle.model.specs.Step.{own, goes, beside_after, named}
 use Rattle.model.proofs.Meets.{acts}
-use borrow.Author.Rules.{rules}
 use Rattle.model.proofs.worsen.Goals as goal
 
 pub worsen-requires : goal.worsen-requires

@@ -4,7 +4,6 @@ use Rattle.events.specs.declared.Event.TheVariants.{Mailbox}
 use Rattle.model.specs.Step.{rewritten, own, goes, beside_after, named}
 use Rattle.model.proofs.Meets.{acts}
 use Rattle.model.proofs.Beside.{rewritten_beside}
-use borrow.Author.Rules.{rules}
 use Rattle.model.proofs.write_mailbox.Goals as goal
 
 pub returns : goal.returns

@@ -7,7 +7,6 @@ use Rattle.events.specs.declared.Event.TheVariants.{Register}
 use Rattle.model.specs.Step.{own, goes, masked, beside_after, named}
 use Rattle.model.proofs.Meets.{acts}
 use Rattle.model.proofs.Beside.{masked_beside}
-use borrow.Author.Rules.{rules}
 use Rattle.model.proofs.write_register.Goals as goal
 
 pub write-requires : goal.write-requires

@@ -1,6 +1,5 @@
 use borrow.Author.Tests.{le-leb, lt-leb}
 use Rattle.reading.specs.Read.{place_of}
-use borrow.Author.Rules.{rules}
 use Rattle.reading.proofs.place.Goals as goal
 
 pub returns-then-n-ge64 : goal.returns-then-n-ge64

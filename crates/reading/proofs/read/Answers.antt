@@ -1,11 +1,9 @@
 use mathlib.Core.Path.{sym, ◌∙◌, ap}
 use mathlib.Core.Bool.{Bool}
-use borrow.Author.Tests.{not-true, not-false}
 use Rattle.registers.specs.Status.{ecan}
 use Rattle.good.proofs.Image.{good_length}
 use Rattle.answers.specs.Answer.{packed_reading}
 use Rattle.reading.specs.Read.{readable, read}
-use borrow.Author.Rules.{rules}
 use Rattle.reading.proofs.read.Goals as goal
 
 pub returns-then-not-good_image : goal.returns-then-not-good_image

@@ -8,7 +8,6 @@ use Rattle.good.proofs.Image.{good_length, good-slot}
 use Rattle.reading.specs.Gsr.{gsr}
 use Rattle.reading.specs.Read.{value}
 use Rattle.reading.proofs.Laws.{number-place, place-most, place-fits}
-use borrow.Author.Rules.{rules}
 use Rattle.reading.proofs.value.Goals as goal
 
 pub load-b-requires : goal.load-b-requires

@@ -1,6 +1,5 @@
 use mathlib.Core.Path.{◌∙◌, ap}
 use mathlib.Core.Bool.{cond}
-use borrow.Author.Rules.{rules}
 use Rattle.refusals.proofs.first.Goals as goal
 
 pub returns : goal.returns

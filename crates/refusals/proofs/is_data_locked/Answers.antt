@@ -1,5 +1,4 @@
 use mathlib.Core.Bool.{not, ◌&&◌, ◌||◌}
-use borrow.Author.Rules.{rules}
 use Rattle.refusals.proofs.is_data_locked.Goals as goal
 
 pub returns : goal.returns

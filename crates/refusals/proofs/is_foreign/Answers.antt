@@ -1,5 +1,4 @@
 use mathlib.Core.Path.{sym, ◌∙◌}
-use borrow.Author.Rules.{rules}
 use Rattle.refusals.proofs.is_foreign.Goals as goal
 
 pub returns-then-is_ecan : goal.returns-then-is_ecan

@@ -1,6 +1,5 @@
 use mathlib.Core.Bool.{◌&&◌, ◌||◌}
 use lib.Dec.{eqb, leb}
-use borrow.Author.Rules.{rules}
 use Rattle.refusals.proofs.is_mailbox_locked.Goals as goal
 
 pub returns : goal.returns

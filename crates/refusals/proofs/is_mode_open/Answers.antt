@@ -1,6 +1,5 @@
 use mathlib.Core.Bool.{not, ◌&&◌, ◌||◌}
 use lib.Dec.{eqb}
-use borrow.Author.Rules.{rules}
 use Rattle.refusals.proofs.is_mode_open.Goals as goal
 
 pub returns : goal.returns

@@ -1,7 +1,6 @@
 use mathlib.Core.Path.{◌∙◌, ap}
 use borrow.Author.Tests.{eq-eqb, ne_eqb}
 use Rattle.refusals.specs.Refusal.{meet}
-use borrow.Author.Rules.{rules}
 use Rattle.refusals.proofs.is_register_busy.Goals as goal
 
 pub returns-then-t-eq0 : goal.returns-then-t-eq0

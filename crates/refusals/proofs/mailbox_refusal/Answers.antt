@@ -3,7 +3,6 @@ use mathlib.Core.Bool.{Bool}
 use mathlib.Core.List.{[], ◌∷◌}
 use Rattle.bits.specs.Tests.{first_from}
 use Rattle.refusals.specs.Refusal.{mailbox_locked}
-use borrow.Author.Rules.{rules}
 use Rattle.refusals.proofs.mailbox_refusal.Goals as goal
 
 pub returns : goal.returns

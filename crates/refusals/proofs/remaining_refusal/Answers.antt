@@ -6,7 +6,6 @@ use Rattle.registers.specs.declared.Block.{Block}
 use Rattle.registers.specs.Status.{vacant}
 use Rattle.mailboxes.specs.Mailbox.{mailbox_word}
 use Rattle.refusals.specs.Refusal.{register_busy, register_locked, mailbox_busy, mailbox_locked, mode_open, remaining}
-use borrow.Author.Rules.{rules}
 use Rattle.refusals.proofs.remaining_refusal.Goals as goal
 
 pub mailbox_refusal-requires : goal.mailbox_refusal-requires

@@ -1,5 +1,4 @@
 use lib.Bits.{bit_xor}
-use borrow.Author.Rules.{rules}
 use Rattle.refusals.proofs.turned_round.Goals as goal
 
 pub returns : goal.returns

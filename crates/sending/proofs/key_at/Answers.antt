@@ -2,7 +2,6 @@ use mathlib.Core.Path.{◌∙◌, ap}
 use Rattle.mailboxes.specs.Mailbox.{ide, rtr}
 use Rattle.mailboxes.specs.Arbitration.{identifier_of, key_of}
 use Rattle.sending.specs.Choice.{key_at}
-use borrow.Author.Rules.{rules}
 use Rattle.sending.proofs.key_at.Goals as goal
 
 pub returns : goal.returns

@@ -1,11 +1,8 @@
 use mathlib.Core.Path.{sym, ◌∙◌, ap}
 use mathlib.Core.Bool.{true, false}
-use borrow.Author.Tests.{not-true, not-false}
 use Rattle.registers.specs.Modes.{on_bus}
-use Rattle.registers.specs.Sending.{eligible}
 use Rattle.sending.specs.Choice.{chosen}
 use Rattle.sending.proofs.Choice.{next-off, next_by}
-use borrow.Author.Rules.{rules}
 use Rattle.sending.proofs.next.Goals as goal
 
 pub returns-then-not-is_on_bus : goal.returns-then-not-is_on_bus

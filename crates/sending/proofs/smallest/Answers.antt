@@ -1,4 +1,4 @@
-use Prim.Native.Nat.{ℕ, ◌-◌, ◌^◌, ◌<◌}
+use Prim.Native.Nat.{ℕ}
 use mathlib.Core.Path.{◌≡◌, refl, ◌∙◌, ap, ap₂}
 use native.Mathlib.Omega.{arith}
 use borrow.Author.Rules.{rules}
@@ -7,7 +7,7 @@ use Rattle.bits.specs.Below.{first_below}
 use Rattle.bits.proofs.Sets.{without_lt}
 use Rattle.sending.specs.Choice.{key_at, smallest_below, better_of}
 use Rattle.mailboxes.specs.declared.Key.{Key}
-use Rattle.sending.proofs.Choice.{Left, begins, onwards, goes_on, some-named, none_named}
+use Rattle.sending.proofs.Choice.{begins, onwards, goes_on, some-named, none_named}
 use Rattle.sending.proofs.smallest.Goals as goal
 
 pub loop-rest-init : goal.loop-rest-init

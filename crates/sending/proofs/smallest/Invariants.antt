@@ -1,13 +1,7 @@
-use Prim.Native.Nat.{ℕ, ◌-◌, ◌^◌, ◌<◌}
-use mathlib.Core.Path.{◌≡◌, refl, ◌∙◌, ap, ap₂}
-use native.Mathlib.Omega.{arith}
-use borrow.Author.Rules.{rules}
-use Rattle.bits.specs.Bit.{bit, mask, without}
+use Prim.Native.Nat.{◌-◌, ◌^◌, ◌<◌}
+use Rattle.bits.specs.Bit.{bit}
 use Rattle.bits.specs.Below.{first_below}
-use Rattle.bits.proofs.Sets.{without_lt}
-use Rattle.sending.specs.Choice.{key_at, smallest_below, better_of}
-use Rattle.mailboxes.specs.declared.Key.{Key}
-use Rattle.sending.proofs.Choice.{Left, begins, onwards, goes_on, some-named, none_named}
+use Rattle.sending.proofs.Choice.{Left}
 use Rattle.sending.proofs.smallest.Given as goal
 
 abbrev pub invariant-loop-rest : goal.invariant-loop-rest

@@ -1,6 +1,5 @@
 use Rattle.stream.proofs.Bytewise.{one-at_once, all-at_once, lack_at_once}
 use native.Mathlib.Omega.{arith}
-use borrow.Author.Rules.{rules}
 use Rattle.stream.proofs.at_once.Goals as goal
 
 pub returns-then-r-eq0 : goal.returns-then-r-eq0

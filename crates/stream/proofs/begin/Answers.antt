@@ -5,7 +5,6 @@ use Rattle.fresh.specs.Fresh.{fresh_image}
 use Rattle.trace.specs.Trace.{header}
 use Rattle.stream.specs.Stream.{opened}
 use native.Mathlib.Omega.{arith}
-use borrow.Author.Rules.{rules}
 use Rattle.stream.proofs.begin.Goals as goal
 
 pub returns-then-text-lt24 : goal.returns-then-text-lt24

@@ -1,6 +1,5 @@
 use Rattle.stream.proofs.Kept.{copied}
 use mathlib.Core.Path.{sym}
-use borrow.Author.Rules.{rules}
 use Rattle.stream.proofs.clear.Goals as goal
 
 pub returns : goal.returns

@@ -2,7 +2,6 @@ use Rattle.stream.proofs.Bytewise.{low_byte, high_byte-fault, high_byte}
 use Prim.Native.Nat.{ℕ, ◌+◌, ◌*◌}
 use mathlib.Core.Path.{ap₂}
 use native.Mathlib.Omega.{arith}
-use borrow.Author.Rules.{rules}
 use Rattle.stream.proofs.count.Goals as goal
 
 pub returns-then-r-eq0 : goal.returns-then-r-eq0

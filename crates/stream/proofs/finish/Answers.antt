@@ -4,7 +4,6 @@ use mathlib.Core.Path.{sym, refl}
 use lib.Seq.{length-take-le}
 use Rattle.words.specs.Bytes.{Bytes}
 use native.Mathlib.Omega.{arith}
-use borrow.Author.Rules.{rules}
 use Rattle.stream.proofs.finish.Goals as goal
 
 pub reader_of-r-requires : goal.reader_of-r-requires

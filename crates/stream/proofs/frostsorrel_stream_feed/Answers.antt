@@ -2,7 +2,6 @@ use Rattle.stream.proofs.Leaving.{stopped, goes_on}
 use mathlib.Core.Path.{sym, ◌∙◌}
 use Rattle.stream.specs.Calls.{against, fed_call, feeding}
 use native.Mathlib.Omega.{arith}
-use borrow.Author.Rules.{rules}
 use Rattle.stream.proofs.frostsorrel_stream_feed.Goals as goal
 
 pub returns-then-refusal-ne0 : goal.returns-then-refusal-ne0

@@ -1,6 +1,5 @@
 use Rattle.stream.proofs.Leaving.{other_length, opens}
 use native.Mathlib.Omega.{arith}
-use borrow.Author.Rules.{rules}
 use Rattle.stream.proofs.frostsorrel_stream_open.Goals as goal
 
 pub returns-then-image-ne-IMAGE_BYTES : goal.returns-then-image-ne-IMAGE_BYTES

@@ -1,8 +1,6 @@
 use Rattle.stream.proofs.Bytewise.{steps_below, fault_room, fault-there, more_there, line_room, whole-there}
 use mathlib.Core.Path.{◌∙◌}
 use native.Mathlib.Omega.{arith}
-use borrow.Author.Tests.{not-true, not-false}
-use borrow.Author.Rules.{rules}
 use Rattle.stream.proofs.gather.Goals as goal
 
 pub overflow_cast-event : goal.overflow_cast-event

@@ -1,6 +1,5 @@
 use Rattle.stream.proofs.Judging.{no_section, past_sections, too_many_left, too_many_steps, too_much_seen, rest_decides, left_bound, known_bound}
 use native.Mathlib.Omega.{arith}
-use borrow.Author.Rules.{rules}
 use Rattle.stream.proofs.is_ready.Goals as goal
 
 pub returns-then-r-eq0 : goal.returns-then-r-eq0

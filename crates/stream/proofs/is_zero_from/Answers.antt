@@ -1,8 +1,5 @@
 use Rattle.stream.proofs.Loops.{zero_end, zero_broken, zero-onward, word-onward, word_broken}
-use Prim.Native.Nat.{◌-◌}
-use mathlib.Core.Path.{◌≡◌, refl, ◌∙◌}
-use lib.ListN.{drop}
-use Rattle.stream.specs.Calls.{all_zero}
+use mathlib.Core.Path.{refl, ◌∙◌}
 use native.Mathlib.Omega.{arith}
 use Rattle.stream.proofs.is_zero_from.Goals as goal
 

@@ -1,9 +1,7 @@
-use Rattle.stream.proofs.Loops.{zero_end, zero_broken, zero-onward, word-onward, word_broken}
 use Prim.Native.Nat.{◌-◌}
-use mathlib.Core.Path.{◌≡◌, refl, ◌∙◌}
+use mathlib.Core.Path.{◌≡◌}
 use lib.ListN.{drop}
 use Rattle.stream.specs.Calls.{all_zero}
-use native.Mathlib.Omega.{arith}
 use Rattle.stream.proofs.is_zero_from.Given as goal
 
 abbrev pub invariant-loop-i : goal.invariant-loop-i

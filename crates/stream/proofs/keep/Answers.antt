@@ -1,5 +1,4 @@
 use Rattle.stream.proofs.Kept.{numbers-put}
-use borrow.Author.Rules.{rules}
 use Rattle.stream.proofs.keep.Goals as goal
 
 pub returns : goal.returns

@@ -14,6 +14,9 @@ returns-then-r-eq-BEHIND c =
     let r = c.args.r in
     as_text (end_line r.section r.left r.steps (omega arith)) c.put_ending.ensures
 
+pub put_text-requires : goal.put_text-requires
+put_text-requires c = search rules
+
 pub returns : goal.returns
 returns c =
     let r = c.args.r in

@@ -4,7 +4,6 @@ use mathlib.Core.Path.{sym, ◌∙◌, ap}
 use mathlib.Core.List.{List}
 use lib.ListN.{drop}
 use Rattle.stream.specs.Terms.{numbers}
-use borrow.Author.Rules.{rules}
 use Rattle.stream.proofs.restart.Goals as goal
 
 pub returns : goal.returns

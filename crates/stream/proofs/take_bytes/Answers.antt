@@ -1,9 +1,8 @@
-use Rattle.stream.proofs.Loops.{Going, begun, ended, some-there, chunk_length, piece_room, behind-place, below, taken}
+use Rattle.stream.proofs.Loops.{begun, ended, some-there, chunk_length, piece_room, behind-place, below, taken}
 use Prim.Native.Nat.{ℕ, ◌+◌, ◌-◌}
 use mathlib.Core.Path.{◌≡◌, sym, ◌∙◌, ap}
-use lib.ListN.{length as size, take, drop}
+use lib.ListN.{take, drop}
 use Rattle.words.proofs.Bytes.{bytes_take, bytes_drop}
-use Rattle.stream.specs.Terms.{standing_by}
 use native.Mathlib.Omega.{arith}
 use Rattle.stream.proofs.take_bytes.Goals as goal
 

@@ -3,7 +3,6 @@ use Rattle.stream.proofs.Leaving.{counts_fit, part-there}
 use Rattle.words.specs.Bytes.{Bytes}
 use native.Mathlib.Omega.{arith}
 use mathlib.Core.Path.{refl}
-use borrow.Author.Rules.{rules}
 use Rattle.stream.proofs.take_here.Goals as goal
 
 pub take_part-requires : goal.take_part-requires

@@ -8,7 +8,6 @@ use Rattle.stream.proofs.Ready.{printed-fits}
 use Rattle.stream.specs.Calls.{standing}
 use mathlib.Core.Path.{sym, ◌∙◌}
 use borrow.Author.Tests.{leb-true}
-use borrow.Author.Rules.{rules}
 use Rattle.stream.proofs.take_in.Goals as goal
 
 pub take_here-requires : goal.take_here-requires

@@ -3,7 +3,6 @@ use Rattle.stream.proofs.Leaving.{part_undone}
 use Rattle.words.specs.Bytes.{Bytes}
 use native.Mathlib.Omega.{arith}
 use mathlib.Core.Path.{refl}
-use borrow.Author.Rules.{rules}
 use Rattle.stream.proofs.take_long.Goals as goal
 
 pub text_length-requires : goal.text_length-requires

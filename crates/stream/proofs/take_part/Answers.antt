@@ -1,6 +1,5 @@
 use Rattle.stream.proofs.Parts.{event-length, seen_most, event-clean, stands, same_room, part-taken}
 use native.Mathlib.Omega.{arith}
-use borrow.Author.Rules.{rules}
 use Rattle.stream.proofs.take_part.Goals as goal
 
 pub take_bytes-p-requires : goal.take_bytes-p-requires

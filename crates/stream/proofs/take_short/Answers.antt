@@ -7,7 +7,6 @@ use Rattle.stream.proofs.Ready.{printed-fits}
 use Rattle.stream.specs.Calls.{standing}
 use mathlib.Core.Path.{refl, sym, ◌∙◌}
 use lib.Seq.{length-take-le}
-use borrow.Author.Rules.{rules}
 use Rattle.stream.proofs.take_short.Goals as goal
 
 pub put_text-requires : goal.put_text-requires

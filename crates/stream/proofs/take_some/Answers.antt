@@ -3,7 +3,6 @@ use Rattle.stream.proofs.Bytewise.{alone, none_left, over-bytes, behind-text, be
 use mathlib.Core.Path.{◌∙◌, ap}
 use lib.ListN.{length, length-set, get_or}
 use native.Mathlib.Omega.{arith}
-use borrow.Author.Rules.{rules}
 use Rattle.stream.proofs.take_some.Goals as goal
 
 pub returns-then-r-eq-OVER : goal.returns-then-r-eq-OVER

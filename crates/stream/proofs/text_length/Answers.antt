@@ -6,7 +6,6 @@ use native.Mathlib.Omega.{arith}
 use lib.ListN.{length}
 use Rattle.stream.specs.Stream.{printed}
 use Rattle.stream.specs.Calls.{standing}
-use borrow.Author.Rules.{rules}
 use Rattle.stream.proofs.text_length.Goals as goal
 
 pub take_part-p-requires : goal.take_part-p-requires

@@ -1,6 +1,5 @@
 use mathlib.Core.Path.{refl}
 use Rattle.texts.specs.Text.{written}
-use borrow.Author.Rules.{rules}
 use Rattle.texts.proofs.put.Goals as goal
 
 pub returns : goal.returns

@@ -2,7 +2,6 @@ use Rattle.texts.specs.Text.{decimal}
 use Rattle.texts.proofs.Writing.{both_put, room, front}
 use mathlib.Core.List.{[], ◌∷◌}
 use native.Mathlib.Omega.{arith}
-use borrow.Author.Rules.{rules}
 use Rattle.texts.proofs.put_field.Goals as goal
 
 pub put_number-last-requires : goal.put_number-last-requires

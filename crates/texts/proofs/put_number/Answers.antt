@@ -5,7 +5,6 @@ use native.Mathlib.Omega.{arith}
 use Rattle.texts.specs.Text.{decimal}
 use Rattle.texts.proofs.Decimal.{decimal_more}
 use Rattle.texts.proofs.Writing.{as_text, both_put, room, front}
-use borrow.Author.Rules.{rules}
 use Rattle.texts.proofs.put_number.Goals as goal
 
 abbrev two : ℕ → List ℕ

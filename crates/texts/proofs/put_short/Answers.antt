@@ -3,7 +3,6 @@ use native.Mathlib.Omega.{arith}
 use lib.ListN.{length}
 use Rattle.texts.proofs.Decimal.{decimal-short, decimal_two}
 use Rattle.texts.proofs.Writing.{as_text}
-use borrow.Author.Rules.{rules}
 use Rattle.texts.proofs.put_short.Goals as goal
 
 pub put_digit-requires : goal.put_digit-requires

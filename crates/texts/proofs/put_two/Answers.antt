@@ -1,5 +1,4 @@
 use Rattle.texts.proofs.Writing.{both_put}
-use borrow.Author.Rules.{rules}
 use Rattle.texts.proofs.put_two.Goals as goal
 
 pub returns : goal.returns

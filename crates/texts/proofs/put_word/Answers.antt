@@ -1,6 +1,5 @@
 use mathlib.Core.Path.{refl, ◌∙◌}
 use Rattle.texts.proofs.Writing.{written-word}
-use borrow.Author.Rules.{rules}
 use Rattle.texts.proofs.put_word.Goals as goal
 
 pub returns : goal.returns

@@ -1,7 +1,6 @@
 use mathlib.Core.Path.{refl}
 use Rattle.answers.proofs.Lists.{too_short}
 use Rattle.texts.proofs.Writing.{put_down}
-use borrow.Author.Rules.{rules}
 use Rattle.texts.proofs.tell.Goals as goal
 
 pub returns-then-out-list : goal.returns-then-out-list

@@ -1,7 +1,6 @@
 use native.Mathlib.Omega.{arith}
 use mathlib.Core.Path.{sym}
 use lib.ListN.{get_or-eq_default}
-use borrow.Author.Rules.{rules}
 use Rattle.trace.proofs.byte_at.Goals as goal
 
 pub returns-then-at-file : goal.returns-then-at-file

@@ -1,6 +1,5 @@
 use native.Mathlib.Omega.{arith}
 use Rattle.trace.specs.Trace.{count_at}
-use borrow.Author.Rules.{rules}
 use Rattle.trace.proofs.count_at.Goals as goal
 
 pub returns : goal.returns

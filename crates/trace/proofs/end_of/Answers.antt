@@ -1,6 +1,5 @@
 use native.Mathlib.Omega.{arith}
 use Rattle.trace.specs.Trace.{end_of}
-use borrow.Author.Rules.{rules}
 use Rattle.trace.proofs.end_of.Goals as goal
 
 pub returns : goal.returns

@@ -2,7 +2,6 @@ use mathlib.Core.Path.{◌∙◌, ap}
 use Rattle.trace.specs.Trace.{count_at, end_of}
 use native.Mathlib.Omega.{arith}
 use Rattle.trace.proofs.Runs.{event-count}
-use borrow.Author.Rules.{rules}
 use Rattle.trace.proofs.event_count.Goals as goal
 
 pub returns : goal.returns

@@ -1,11 +1,6 @@
-use borrow.Author.Tests.{not-true, not-false}
-use lib.ListN.{get_or}
-use Prim.Native.Nat.{◌+◌, ◌-◌, ◌*◌, ◌≤◌}
-use mathlib.Core.Path.{◌≡◌, refl, sym, ◌∙◌, ap}
-use mathlib.Core.Bool.{Bool, true, false, ◌&&◌}
-use native.Mathlib.Omega.{arith}
-use Rattle.trace.specs.Trace.{placed, takes}
-use Rattle.trace.proofs.Runs.{placed-none, placed_more}
+use Prim.Native.Nat.{◌+◌, ◌*◌, ◌≤◌}
+use mathlib.Core.Path.{◌≡◌}
+use Rattle.trace.specs.Trace.{placed}
 use Rattle.trace.proofs.is_placed.Given as goal
 
 abbrev pub invariant-loop-left : goal.invariant-loop-left

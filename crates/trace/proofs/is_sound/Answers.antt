@@ -5,7 +5,6 @@ use mathlib.Core.Path.{◌∙◌, ap}
 use Rattle.trace.specs.Trace.{placed}
 use mathlib.Core.Bool.{Bool}
 use Rattle.trace.specs.Trace.{sound}
-use borrow.Author.Rules.{rules}
 use Rattle.trace.proofs.is_sound.Goals as goal
 
 pub returns : goal.returns

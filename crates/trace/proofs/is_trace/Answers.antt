@@ -1,7 +1,6 @@
 use mathlib.Core.Path.{◌∙◌, ap}
 use Rattle.trace.specs.Trace.{end_of, sound}
 use Rattle.trace.specs.Trace.{well_formed}
-use borrow.Author.Rules.{rules}
 use Rattle.trace.proofs.is_trace.Goals as goal
 
 pub returns : goal.returns

@@ -1,9 +1,8 @@
 use mathlib.Core.Path.{sym, ◌∙◌}
 use lib.ListN.{length}
-use borrow.Author.Tests.{lt-ltb, not-true, not-false}
+use borrow.Author.Tests.{lt-ltb}
 use Rattle.trace.specs.Trace.{listing, longest}
 use Rattle.trace.proofs.Unique.{listed}
-use borrow.Author.Rules.{rules}
 use Rattle.trace.proofs.list.Goals as goal
 
 pub returns-then-out-lt-LONGEST : goal.returns-then-out-lt-LONGEST

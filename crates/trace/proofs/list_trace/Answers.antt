@@ -1,6 +1,5 @@
 use mathlib.Core.Path.{ap}
 use mathlib.Core.List.{◌++◌}
-use Prim.Native.Nat.{◌+◌}
 use native.Mathlib.Omega.{arith}
 use lib.ListN.{length}
 use Rattle.registers.specs.Block.{can_b}
@@ -8,7 +7,6 @@ use Rattle.fresh.specs.Fresh.{fresh_image}
 use Rattle.trace.specs.Trace.{events, lines, ending, run}
 use Rattle.texts.proofs.Writing.{as_text, both_put, room, front}
 use Rattle.trace.proofs.Bound.{run-most}
-use borrow.Author.Rules.{rules}
 use Rattle.trace.proofs.list_trace.Goals as goal
 
 pub run_all-b-requires : goal.run_all-b-requires

@@ -7,7 +7,6 @@ use Rattle.fresh.specs.Fresh.{fresh_block, fresh_image}
 use Rattle.fresh.proofs.Good.{zeros}
 use Rattle.trace.specs.Trace.{end_of}
 use Rattle.trace.proofs.Runs.{room_one, room_two, room_three, put_three, first_in, second_in, third_in}
-use borrow.Author.Rules.{rules}
 use Rattle.trace.proofs.run_all.Goals as goal
 
 pub run_section-a-requires : goal.run_section-a-requires

@@ -1,7 +1,6 @@
 use Rattle.model.specs.Step.{step}
 use Rattle.texts.proofs.Writing.{as_text}
 use Rattle.trace.proofs.Answers.{step_small, line_of_lem}
-use borrow.Author.Rules.{rules}
 use Rattle.trace.proofs.run_event.Goals as goal
 
 pub put_line-requires : goal.put_line-requires

@@ -3,8 +3,6 @@ use Prim.Native.Nat.{ℕ, ◌+◌, ◌-◌}
 use mathlib.Core.Path.{◌≡◌, ap}
 use native.Mathlib.Omega.{arith}
 use lib.ListN.{take, drop}
-use Rattle.texts.proofs.Writing.{kept}
-use Rattle.trace.proofs.Runs.{Going}
 use Rattle.trace.proofs.run_section.Goals as goal
 
 pub overflow_add-from : goal.overflow_add-from

@@ -1,9 +1,3 @@
-use Rattle.trace.proofs.Runs.{begun, ended, its_room, turned}
-use Prim.Native.Nat.{ℕ, ◌+◌, ◌-◌}
-use mathlib.Core.Path.{◌≡◌, ap}
-use native.Mathlib.Omega.{arith}
-use lib.ListN.{take, drop}
-use Rattle.texts.proofs.Writing.{kept}
 use Rattle.trace.proofs.Runs.{Going}
 use Rattle.trace.proofs.run_section.Given as goal
 

@@ -1,12 +1,7 @@
-use borrow.Author.Rules.{rules}
 use Prim.Native.Nat.{ℕ, ◌+◌, ◌*◌, ◌-◌, ◌<◌, ◌≤◌}
-use mathlib.Core.Path.{◌≡◌, refl, sym, ◌∙◌}
-use native.Mathlib.Omega.{arith}
-use lib.ListN.{length, get_or, length-set}
-use lib.Seq.{ext_get_or}
-use borrow.Author.Count.{below_none}
+use mathlib.Core.Path.{◌≡◌}
+use lib.ListN.{length, get_or}
 use Rattle.words.specs.Word.{word_at}
-use Rattle.words.proofs.Rows.{length-words, word_of, set_more}
 use Rattle.words.proofs.load_words.Given as goal
 
 abbrev pub invariant-loop-i : goal.invariant-loop-i

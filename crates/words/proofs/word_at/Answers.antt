@@ -1,4 +1,3 @@
-use borrow.Author.Rules.{rules}
 use Rattle.words.specs.Word.{word_at}
 use Rattle.words.proofs.word_at.Goals as goal
 

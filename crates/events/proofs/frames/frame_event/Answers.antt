@@ -1,5 +1,4 @@
 use Rattle.events.specs.Decode.{decoded_as}
-use borrow.Author.Rules.{rules}
 use Rattle.events.proofs.frames.frame_event.Goals as goal
 
 pub returns-then-is_frame_taken : goal.returns-then-is_frame_taken

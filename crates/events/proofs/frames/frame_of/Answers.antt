@@ -1,5 +1,4 @@
 use Rattle.events.specs.Parts.{frame_of}
-use borrow.Author.Rules.{rules}
 use Rattle.events.proofs.frames.frame_of.Goals as goal
 
 pub returns : goal.returns

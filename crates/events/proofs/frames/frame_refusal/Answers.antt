@@ -1,6 +1,5 @@
 use mathlib.Core.Path.{sym, ◌∙◌}
 use Rattle.events.proofs.Laws.{other_length, other-operation, a_frame}
-use borrow.Author.Rules.{rules}
 use Rattle.events.proofs.frames.frame_refusal.Goals as goal
 
 pub returns-then-e-ne16 : goal.returns-then-e-ne16

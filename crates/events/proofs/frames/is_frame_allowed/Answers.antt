@@ -1,5 +1,4 @@
 use Rattle.events.specs.Parts.{frame_allowed}
-use borrow.Author.Rules.{rules}
 use Rattle.events.proofs.frames.is_frame_allowed.Goals as goal
 
 pub returns : goal.returns

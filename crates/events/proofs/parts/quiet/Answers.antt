@@ -6,7 +6,6 @@ use lib.Dec.{eqb}
 use Rattle.bits.specs.Tests.{every}
 use Rattle.events.specs.Parts.{quiet}
 use Rattle.events.proofs.Laws.{halves}
-use borrow.Author.Rules.{rules}
 use Rattle.events.proofs.parts.quiet.Goals as goal
 
 pub returns : goal.returns

@@ -1,5 +1,4 @@
 use Rattle.events.specs.Decode.{decoded_as}
-use borrow.Author.Rules.{rules}
 use Rattle.events.proofs.writes.mailbox_event.Goals as goal
 
 pub returns-then-not-t-k : goal.returns-then-not-t-k

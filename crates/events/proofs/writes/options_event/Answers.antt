@@ -1,5 +1,4 @@
 use Rattle.events.specs.Decode.{decoded_as}
-use borrow.Author.Rules.{rules}
 use Rattle.events.proofs.writes.options_event.Goals as goal
 
 pub returns-then-asleep : goal.returns-then-asleep

@@ -5,7 +5,6 @@ use Rattle.words.specs.Word.{put_word}
 use Rattle.mailboxes.proofs.Filed.{data_bytes_le}
 use native.Mathlib.Omega.{arith}
 use Rattle.mailboxes.specs.Filing.{filed_identifier, spliced, with_data, filed}
-use borrow.Author.Rules.{rules}
 use Rattle.mailboxes.proofs.filing.file.Goals as goal
 
 pub spliced-d-requires : goal.spliced-d-requires

@@ -1,6 +1,5 @@
 use native.Mathlib.Omega.{arith}
 use Rattle.mailboxes.proofs.Laws.{cond_le}
-use borrow.Author.Rules.{rules}
 use Rattle.mailboxes.proofs.filing.filed_identifier.Goals as goal
 
 pub overflow_add-result : goal.overflow_add-result

@@ -2,7 +2,6 @@ use Prim.Native.Nat.{ℕ, ◌/◌, ◌^◌}
 use mathlib.Core.Path.{◌∙◌, ap}
 use mathlib.Core.List.{List}
 use Rattle.words.specs.Word.{put_word}
-use borrow.Author.Rules.{rules}
 use Rattle.mailboxes.proofs.filing.put_data.Goals as goal
 
 pub returns : goal.returns

@@ -1,6 +1,5 @@
 use Rattle.mailboxes.specs.Filing.{stamped}
 use Rattle.mailboxes.proofs.Laws.{lent}
-use borrow.Author.Rules.{rules}
 use Rattle.mailboxes.proofs.filing.put_stamp.Goals as goal
 
 pub returns : goal.returns

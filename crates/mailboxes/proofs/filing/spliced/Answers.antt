@@ -7,7 +7,6 @@ use lib.Bits.{bit_or}
 use lib.Pow.{pow_pos, shl_exact, split}
 use Rattle.bits.proofs.Laws.{or_below}
 use Rattle.mailboxes.specs.Filing.{spliced}
-use borrow.Author.Rules.{rules}
 use Rattle.mailboxes.proofs.filing.spliced.Goals as goal
 
 -- the unit of n bytes, where it fits

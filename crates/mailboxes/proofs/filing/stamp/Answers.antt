@@ -2,7 +2,6 @@ use Prim.Native.Nat.{ℕ}
 use mathlib.Core.Path.{◌∙◌, ap}
 use Rattle.words.specs.Word.{put_word}
 use Rattle.mailboxes.specs.Filing.{stamped_control, stamped}
-use borrow.Author.Rules.{rules}
 use Rattle.mailboxes.proofs.filing.stamp.Goals as goal
 
 pub returns : goal.returns

@@ -4,7 +4,6 @@ use mathlib.Core.Bool.{cond, ◌||◌}
 use native.Mathlib.Omega.{arith}
 use Rattle.mailboxes.specs.Arbitration.{base, low, key_of}
 use Rattle.mailboxes.proofs.Laws.{cond_le}
-use borrow.Author.Rules.{rules}
 use Rattle.mailboxes.proofs.keys.key_of.Goals as goal
 
 pub overflow_add-rest : goal.overflow_add-rest

@@ -1,6 +1,5 @@
 use Rattle.mailboxes.proofs.Laws.{cond_le}
 use native.Mathlib.Omega.{arith}
-use borrow.Author.Rules.{rules}
 use Rattle.mailboxes.proofs.keys.word_of.Goals as goal
 
 pub overflow_add-result : goal.overflow_add-result

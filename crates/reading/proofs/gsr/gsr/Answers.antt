@@ -7,7 +7,6 @@ use lib.Dec.{eqb}
 use Rattle.registers.specs.Status.{filled, asleep, bus_off, passive, warning}
 use Rattle.reading.specs.Gsr.{shown_slot, gsr}
 use Rattle.reading.proofs.Fields.{Sum, next, shown_most}
-use borrow.Author.Rules.{rules}
 use Rattle.reading.proofs.gsr.gsr.Goals as goal
 
 pub returns : goal.returns

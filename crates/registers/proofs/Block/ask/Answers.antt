@@ -1,6 +1,5 @@
 use Rattle.registers.specs.Block.{with_waiting}
 use Rattle.registers.specs.Modes.{asked}
-use borrow.Author.Rules.{rules}
 use Rattle.registers.proofs.Block.ask.Goals as goal
 
 pub returns : goal.returns

@@ -6,7 +6,6 @@ use lib.Bits.{bit_and, bit_or}
 use Rattle.bits.specs.Bit.{without, flag}
 use Rattle.registers.specs.Block.{with_trs, with_trr, with_aa, with_gif}
 use Rattle.registers.specs.Writes.{cancelled}
-use borrow.Author.Rules.{rules}
 use Rattle.registers.proofs.Block.cancel.Goals as goal
 
 pub returns : goal.returns

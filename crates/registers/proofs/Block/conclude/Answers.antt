@@ -6,7 +6,6 @@ use native.Mathlib.Omega.{arith}
 use Rattle.registers.specs.Status.{passive}
 use Rattle.registers.specs.Sending.{failed}
 use borrow.Author.Tests.{ne_eqb}
-use borrow.Author.Rules.{rules}
 use Rattle.registers.proofs.Block.conclude.Goals as goal
 
 at_most_8 : (t : Bool) → cond t 8 0 ≤ 8

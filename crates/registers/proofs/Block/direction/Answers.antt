@@ -2,7 +2,6 @@ use mathlib.Core.Path.{sym, ◌∙◌, ap}
 use mathlib.Core.Bool.{Bool, cond}
 use Rattle.bits.specs.Bit.{set_bit}
 use Rattle.registers.specs.Writes.{direction}
-use borrow.Author.Rules.{rules}
 use Rattle.registers.proofs.Block.direction.Goals as goal
 
 pub returns-then-is_ecan : goal.returns-then-is_ecan

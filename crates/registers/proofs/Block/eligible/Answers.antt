@@ -1,7 +1,6 @@
 use mathlib.Core.Path.{◌∙◌, ap}
 use Prim.Native.Nat.{ℕ}
 use Rattle.bits.specs.Bit.{without}
-use borrow.Author.Rules.{rules}
 use Rattle.registers.proofs.Block.eligible.Goals as goal
 
 pub returns : goal.returns

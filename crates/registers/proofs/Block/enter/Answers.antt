@@ -5,7 +5,6 @@ use lib.Bits.{bit_or}
 use Rattle.bits.specs.Bit.{flag}
 use Rattle.registers.specs.Block.{with_trs, with_trr, with_gif, with_tec, with_rec, with_mode, with_waiting, normal, no_mode}
 use Rattle.registers.specs.Modes.{entered}
-use borrow.Author.Rules.{rules}
 use Rattle.registers.proofs.Block.enter.Goals as goal
 
 pub returns : goal.returns

@@ -1,10 +1,9 @@
 use mathlib.Core.Path.{◌∙◌, ap, ap₂}
 use mathlib.Core.Bool.{Bool, true, cond}
 use lib.Bits.{bit_or}
-use Rattle.bits.specs.Bit.{mask, without, flag}
+use Rattle.bits.specs.Bit.{without, flag}
 use Rattle.registers.specs.Block.{with_rfp, with_gif}
 use Rattle.registers.specs.Frames.{stored, flagged}
-use borrow.Author.Rules.{rules}
 use Rattle.registers.proofs.Block.hold.Goals as goal
 
 pub returns : goal.returns

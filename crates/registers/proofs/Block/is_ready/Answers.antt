@@ -1,7 +1,6 @@
 use mathlib.Core.Path.{ap}
 use mathlib.Core.Bool.{Bool, not, ◌&&◌}
 use lib.Dec.{eqb, ltb}
-use borrow.Author.Rules.{rules}
 use Rattle.registers.proofs.Block.is_ready.Goals as goal
 
 pub returns : goal.returns

@@ -5,7 +5,6 @@ use lib.Bits.{bit_or}
 use Rattle.bits.specs.Bit.{flag}
 use Rattle.registers.specs.Block.{with_rec, with_mode, with_gif, normal}
 use Rattle.registers.specs.Frames.{listened}
-use borrow.Author.Rules.{rules}
 use Rattle.registers.proofs.Block.listen.Goals as goal
 
 pub returns : goal.returns

@@ -1,6 +1,5 @@
 use mathlib.Core.Path.{◌∙◌}
 use Rattle.registers.specs.Block.{block_of, of_parts}
-use borrow.Author.Rules.{rules}
 use Rattle.registers.proofs.Block.load.Goals as goal
 
 pub returns : goal.returns

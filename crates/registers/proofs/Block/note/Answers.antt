@@ -2,7 +2,6 @@ use mathlib.Core.Path.{◌∙◌, ap}
 use mathlib.Core.Bool.{Bool, cond}
 use Rattle.registers.specs.Block.{with_gif, with_tso}
 use Rattle.registers.specs.Writes.{noted}
-use borrow.Author.Rules.{rules}
 use Rattle.registers.proofs.Block.note.Goals as goal
 
 pub returns : goal.returns

@@ -3,7 +3,6 @@ use mathlib.Core.Path.{◌∙◌, ap}
 use mathlib.Core.Bool.{Bool, cond}
 use Rattle.registers.specs.Block.{with_tec, with_rec, with_recovery}
 use Rattle.registers.specs.Modes.{recessive}
-use borrow.Author.Rules.{rules}
 use Rattle.registers.proofs.Block.recess.Goals as goal
 
 pub returns : goal.returns

@@ -1,6 +1,5 @@
 use Rattle.registers.specs.Block.{with_rmp, with_rml, with_rfp}
 use Rattle.registers.specs.Writes.{released}
-use borrow.Author.Rules.{rules}
 use Rattle.registers.proofs.Block.release.Goals as goal
 
 pub returns : goal.returns

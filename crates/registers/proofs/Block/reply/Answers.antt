@@ -1,5 +1,4 @@
 use Rattle.registers.specs.Block.{with_trs}
-use borrow.Author.Rules.{rules}
 use Rattle.registers.proofs.Block.reply.Goals as goal
 
 pub returns : goal.returns

@@ -2,7 +2,6 @@ use mathlib.Core.Path.{ap}
 use lib.Bits.{bit_or}
 use Rattle.registers.specs.Block.{with_trs}
 use Rattle.registers.specs.Writes.{requested}
-use borrow.Author.Rules.{rules}
 use Rattle.registers.proofs.Block.request.Goals as goal
 
 pub returns : goal.returns

@@ -5,7 +5,6 @@ use Rattle.bits.specs.Bit.{flag}
 use Rattle.registers.specs.Block.{with_gif}
 use Rattle.registers.specs.Modes.{risen, rises}
 use Rattle.registers.specs.Modes.{risen}
-use borrow.Author.Rules.{rules}
 use Rattle.registers.proofs.Block.rise.Goals as goal
 
 pub returns : goal.returns

@@ -4,7 +4,6 @@ use lib.Bits.{bit_and, bit_or}
 use Rattle.bits.specs.Bit.{without}
 use Rattle.registers.specs.Block.{with_trs, with_trr, with_ta, with_mbtif, with_tec, with_slot, empty_slot}
 use Rattle.registers.specs.Sending.{sent}
-use borrow.Author.Rules.{rules}
 use Rattle.registers.proofs.Block.send.Goals as goal
 
 pub returns : goal.returns

@@ -1,6 +1,5 @@
 use mathlib.Core.Path.{sym, ◌∙◌}
 use Rattle.registers.specs.Modes.{settled}
-use borrow.Author.Rules.{rules}
 use Rattle.registers.proofs.Block.settle.Goals as goal
 
 pub returns-then-is_ready : goal.returns-then-is_ready

@@ -3,7 +3,6 @@ use mathlib.Core.Path.{◌∙◌, ap}
 use mathlib.Core.List.{List}
 use Rattle.words.specs.Word.{put_word, put_words}
 use Rattle.registers.specs.Block.{put_block, registers_at, protection_at, profile_at}
-use borrow.Author.Rules.{rules}
 use Rattle.registers.proofs.Block.store.Goals as goal
 
 pub returns : goal.returns

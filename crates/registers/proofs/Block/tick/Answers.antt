@@ -5,7 +5,6 @@ use lib.Bits.{bit_or}
 use Rattle.bits.specs.Bit.{flag}
 use Rattle.registers.specs.Block.{with_tsc, with_tso, with_gif}
 use Rattle.registers.specs.Modes.{ticked}
-use borrow.Author.Rules.{rules}
 use Rattle.registers.proofs.Block.tick.Goals as goal
 
 pub returns : goal.returns

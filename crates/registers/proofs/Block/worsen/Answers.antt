@@ -3,7 +3,6 @@ use mathlib.Core.Path.{◌∙◌, ap₂}
 use mathlib.Core.Bool.{Bool, cond}
 use Rattle.registers.specs.Block.{with_rec}
 use Rattle.registers.specs.Modes.{worsened}
-use borrow.Author.Rules.{rules}
 use Rattle.registers.proofs.Block.worsen.Goals as goal
 
 pub returns : goal.returns

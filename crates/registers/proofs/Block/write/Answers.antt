@@ -5,7 +5,6 @@ use lib.Dec.{lit<}
 use Rattle.bits.proofs.Below.{past}
 use Rattle.registers.specs.Block.{with_md, with_ta, with_aa, with_mbtif, with_mbrif}
 use Rattle.registers.proofs.Table.{written_at, written_protection, written_none}
-use borrow.Author.Rules.{rules}
 use Rattle.registers.proofs.Block.write.Goals as goal
 
 pub returns-in-2 : goal.returns-in-2

@@ -1,7 +1,6 @@
 use mathlib.Core.Path.{◌∙◌, ap}
 use mathlib.Core.Bool.{cond}
 use lib.Dec.{ltb}
-use borrow.Author.Rules.{rules}
 use Rattle.registers.proofs.frames.fallen.Goals as goal
 
 pub returns : goal.returns

@@ -2,7 +2,6 @@ use Rattle.texts.specs.Text.{field}
 use Rattle.trace.specs.Trace.{end_word, feed}
 use Rattle.texts.proofs.Writing.{both_put, room, front}
 use Rattle.trace.specs.Trace.{ending}
-use borrow.Author.Rules.{rules}
 use Rattle.trace.proofs.text.put_ending.Goals as goal
 
 pub put_text-a-requires : goal.put_text-a-requires

@@ -3,7 +3,6 @@ use Rattle.trace.specs.Trace.{space, feed}
 use mathlib.Core.List.{◌++◌}
 use Rattle.texts.proofs.Writing.{both_put, room, front}
 use Rattle.trace.specs.Trace.{line_of}
-use borrow.Author.Rules.{rules}
 use Rattle.trace.proofs.text.put_line.Goals as goal
 
 pub put_field-a-requires : goal.put_field-a-requires
