@@ -54,12 +54,11 @@ module _ (k w : ℕ) where
   first_next t f zero e = first_even e t f
   first_next t f (suc d) e = first_odd (omega arith)
 
-first_zeros : (k w : ℕ) → First (bit w) k (count_trailing_zeros k w)
-unfolding count_trailing_zeros first_below
-first_zeros zero w = first_is (bit w) zero
-first_zeros (suc k) w = first_next k w (count_trailing_zeros k (w / 2)) (first_zeros k (w / 2)) (w % 2) refl
-
 -- Of any word: the lowest of its k bits that is up is numbered by the count of the zeros below it. Where none is up, as in the word 0, the
 -- number is k, and so is the count.
 pub lowest_zeros : (k w : ℕ) → first_below (bit w) k ≡ count_trailing_zeros k w
-lowest_zeros k w = first_by (bit w) k (count_trailing_zeros k w) (first_zeros k w)
+unfolding count_trailing_zeros first_below
+lowest_zeros zero w = refl
+lowest_zeros (suc k) w =
+    let half : First (bit (w / 2)) k (count_trailing_zeros k (w / 2)) = subst (First (bit (w / 2)) k) (lowest_zeros k (w / 2)) (first_is (bit (w / 2)) k) in
+    first_by (bit w) (suc k) (count_trailing_zeros (suc k) w) (first_next k w (count_trailing_zeros k (w / 2)) half (w % 2) refl)

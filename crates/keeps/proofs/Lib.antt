@@ -4,6 +4,7 @@ pub mod Rows
 pub mod Slot
 pub mod Keep
 pub mod Open
+pub mod Settled
 pub mod Writes
 pub mod Modes
 pub mod Frames

@@ -72,7 +72,7 @@ module _ (b : Block) (k : Core b) (empty : b.slot ≡ empty_slot) (on : b.tec < 
   entered_core h false e = rw e (taken k empty on b.waiting h (λ s. absurd (eqb-false _ _ e s)) (wakes b))
 
 module _ (b : Block) (i : Open b) where
-  entered-good : ready b ≡ true → GoodBlock (entered b)
+  pub entered-good : ready b ≡ true → GoodBlock (entered b)
   unfolding entered
   entered-good e =
       let wants = not (eqb b.waiting no_mode) in
@@ -90,14 +90,10 @@ module _ (b : Block) (i : Open b) where
   held : ready b ≡ false → b.waiting ≢ no_mode → b.slot ≡ empty_slot → bus_off_at ≤ b.tec
   held e n s = ltb-false _ _ (sym (rw (ne_eqb _ _ n, eq-eqb _ _ s)) ∙ e)
 
-  kept_good : ready b ≡ false → GoodBlock b
+  pub kept_good : ready b ≡ false → GoodBlock b
   kept_good e =
       let never : b.waiting ≢ 0 = λ z. let f = i.zero z in let l = held e (λ n. absurd (omega arith)) f.0 in absurd (omega arith) in
       record {
         core = i.core;
         waits = record { least = omega arith; most = i.most; reason = λ n s. let l = held e n s in omega (arith, i.core.ranges.tec) };
       }
-
-  pub settled-good : GoodBlock (settled b)
-  unfolding settled
-  settled-good = either GoodBlock (ready b) entered-good kept_good

@@ -37,7 +37,8 @@ use Rattle.good.specs.Good.{good_image}
 use Rattle.good.proofs.Facts.{GoodBlock}
 use Rattle.good.proofs.Image.{GoodImage, image_facts, mailbox_kept, block_kept}
 use Rattle.good.proofs.Masked.{mask_kept, zeros_kept}
-use Rattle.keeps.proofs.Open.{Open, good_open, risen_open, settled-good}
+use Rattle.keeps.proofs.Open.{Open, good_open, risen_open}
+use Rattle.keeps.proofs.Settled.{settled-good}
 use Rattle.keeps.proofs.Writes.{written_open}
 use Rattle.keeps.proofs.Modes.{ticked_open, recessive_open, optioned_open, worsened_open, asked_open, fresh_open}
 use Rattle.keeps.proofs.Frames.{listened_open, listened-awake, stored_open, replied_open}

@@ -16,6 +16,7 @@ use Rattle.compare.specs.Terms.{both_good}
 use Rattle.compare.proofs.Call.{call_as, call_unique}
 use Rattle.trace.specs.Trace.{Listed}
 use Rattle.trace.proofs.Unique.{same_bytes, same_answer}
+use Rattle.rules.proofs.Call.{call}
 use Rattle.rules.specs.Calls.{Call, FreshCall, StepCall, ReadCall, ListingCall, CompareCall}
 use Rattle.rules.specs.Image.{Good}
 use Rattle.rules.proofs.Good.{good-rule, rule-good}
@@ -25,9 +26,6 @@ use Rattle.rules.proofs.Listing.{lists, listed}
 use Rattle.rules.proofs.Step.{step_meets, rules_one}
 
 -- ---- a promise about an outcome that keeps the rules
-
-call : (P : Outcome → Type 0) (o : Outcome) (x : List ℕ) (a : ℕ) → P o → Promise o x a → Call P x a
-call P o x a k p = record { outcome = o; keeps = k; image = p.image; packs = p.answered }
 
 pub fresh_call : (s x : List ℕ) (p a : ℕ) → Promise (fresh s p) x a → FreshCall s p x a
 fresh_call s x p a = call _ (fresh s p) x a (fresh_meets s p)

@@ -10,6 +10,7 @@ pub mod Meets
 pub mod Outcomes
 pub mod Unique
 pub mod Complete
+pub mod GoodWords
 pub mod Good
 pub mod Refusals
 pub mod Reading
@@ -20,5 +21,6 @@ pub mod Numerals
 pub mod Files
 pub mod Listing
 pub mod Exact
+pub mod Call
 pub mod Calls
 pub mod Demands

@@ -17,7 +17,8 @@ use Rattle.stream.specs.Agreement.{Accounted, FaultLast}
 use Rattle.stream.proofs.Cuts.{fed-append, fed-over, complete-over}
 use Rattle.stream.proofs.Ready.{opened-ready, turn-ready, fed-ready, gathered-few, whole-count, length-with}
 use Rattle.stream.proofs.Story.{complete-append, story}
-use Rattle.stream.proofs.Turns.{Kind, still, surplus, low, many, counted, misplaced, more, last, kind, with}
+use Rattle.stream.proofs.Cases.{Kind, still, surplus, low, many, counted, misplaced, more, last, with}
+use Rattle.stream.proofs.Turns.{kind}
 
 -- so many bytes lead to a standing
 abbrev account : Standing → ℕ

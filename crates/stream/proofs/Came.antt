@@ -17,7 +17,8 @@ use Rattle.rules.proofs.Files.{trace_formed}
 use Rattle.stream.specs.Stream.{Standing, Turn, at, behind, over, is_over, opened, onward, runs, turn, fed, complete, last_line, transcript}
 use Rattle.stream.specs.Terms.{Ready}
 use Rattle.stream.specs.Agreement.{Refusal}
-use Rattle.stream.proofs.Turns.{Kind, still, surplus, low, many, counted as tallied, misplaced, more, last, kind, with}
+use Rattle.stream.proofs.Cases.{Kind, still, surplus, low, many, counted as tallied, misplaced, more, last, with}
+use Rattle.stream.proofs.Turns.{kind}
 use Rattle.stream.proofs.Ready.{opened-ready, turn-ready, fed-ready, gathered-few, whole-count, whole-behind, length-with}
 use Rattle.stream.proofs.Story.{story}
 use Rattle.stream.proofs.Walk.{Fits, AllFit}

@@ -13,7 +13,8 @@ use Rattle.stream.specs.declared.Taken.{Taken}
 use Rattle.stream.specs.Stream.{Standing, printed}
 use Rattle.stream.specs.Calls.{state_of, standing, ready}
 use Rattle.stream.specs.Terms.{standing_by, reader_of, Ready, Clean, room_for, Fed, Taking, numbers}
-use Rattle.stream.proofs.State.{ready-standing, seen_few, zeros_behind}
+use Rattle.stream.proofs.State.{ready-standing, seen_few}
+use Rattle.stream.proofs.FromState.{zeros_behind}
 use Rattle.stream.proofs.Kept.{state_made}
 
 module _ (s t : List ℕ) (l : length t ≡ 32) (d : ready t ≡ true) {r : Reader} (h : r ≡ reader_of t) where

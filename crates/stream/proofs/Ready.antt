@@ -17,7 +17,8 @@ use Rattle.stream.specs.Stream.{Standing, Turn, at, behind, over, opened, ended,
 use Rattle.stream.specs.Calls.{whole}
 use Rattle.stream.specs.Terms.{Ready}
 use Rattle.stream.proofs.Cuts.{printed-over}
-use Rattle.stream.proofs.Turns.{Kind, still, surplus, low, many, counted, misplaced, more, last, kind, with}
+use Rattle.stream.proofs.Cases.{Kind, still, surplus, low, many, counted, misplaced, more, last, with}
+use Rattle.stream.proofs.Turns.{kind}
 
 -- ---- how many bytes complete what is read
 

@@ -17,7 +17,8 @@ use Rattle.stream.specs.Terms.{Ready}
 use Rattle.stream.specs.Agreement.{Reached, States}
 use Rattle.stream.proofs.Cuts.{fed-append}
 use Rattle.stream.proofs.Ready.{opened-ready, fed-ready, gathered-few, whole-count, whole-behind}
-use Rattle.stream.proofs.State.{ready-state, not-over, ready-standing, standing-state}
+use Rattle.stream.proofs.State.{ready-state, not-over, ready-standing}
+use Rattle.stream.proofs.FromState.{standing-state}
 use Rattle.stream.proofs.Walk.{Leads, nowhere, byte, then, low, count, gather}
 use Rattle.stream.proofs.Fitting.{several, several_bytes, run_several}
 

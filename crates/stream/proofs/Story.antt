@@ -11,7 +11,8 @@ use Rattle.model.specs.Step.{step}
 use Rattle.trace.specs.Trace.{count_at, line, lines, image_after, refused_line}
 use Rattle.stream.specs.Stream.{Standing, Turn, behind, is_over, ended, fault, runs, turn, fed, printed, complete}
 use Rattle.stream.proofs.Cuts.{fed-over, printed-over, complete-over}
-use Rattle.stream.proofs.Turns.{Kind, still, surplus, low, many, counted, misplaced, more, last, kind, with}
+use Rattle.stream.proofs.Cases.{Kind, still, surplus, low, many, counted, misplaced, more, last, with}
+use Rattle.stream.proofs.Turns.{kind}
 
 pub complete-append : (σ : Standing) (p q : List ℕ) → complete σ (p ++ q) ≡ complete σ p ++ complete (fed σ p) q
 unfolding fed complete

@@ -24,7 +24,8 @@ use Rattle.stream.specs.Terms.{Ready}
 use Rattle.stream.specs.Agreement.{Held, Stands, Feeding, after, Part, fed_to, after_parts, roomy, begun, last_of, file, Ends, Cutting, Nine, Rooms, Over, Finished}
 use Rattle.stream.proofs.Cuts.{fed-append, printed-append, fed-over, printed-over}
 use Rattle.stream.proofs.Ready.{opened-ready, ended-ready, fed-ready, steps-few, last-short, printed-most, printed-fits}
-use Rattle.stream.proofs.State.{length-state, section_back, standing_back, ready-state, ready-standing, standing-state}
+use Rattle.stream.proofs.State.{length-state, section_back, standing_back, ready-state, ready-standing}
+use Rattle.stream.proofs.FromState.{standing-state}
 use Rattle.stream.proofs.Judging.{Stands as Against, taken, free, past, unfit, stands, over_already, nothing-against}
 use Rattle.stream.proofs.Leaving.{there, prints-fits, prints-short, unless-none, unless-some}
 use Rattle.stream.proofs.Story.{story}

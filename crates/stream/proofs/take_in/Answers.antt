@@ -17,4 +17,4 @@ take_here-requires c =
     let b : Bytes a.state.now = record { small = λ i. omega (arith, c.slice_known-2-1.given i) } in
     let d : Bytes a.part.now = record { small = λ i. omega (arith, c.shared_slice_known-1.given i) } in
     let f = printed-fits (standing a.image.now a.state.now) (can_stand k b) a.part.now d in
-    (c.requires, omega (arith, f, leb-true (length a.part.now + 31) (length a.text.now) (sym c.is_roomy.ensures ∙ c.if-is_roomy.true)))
+    (c.requires, omega (arith, f, leb-true _ _ (sym c.is_roomy.ensures ∙ c.if-is_roomy.true)))
