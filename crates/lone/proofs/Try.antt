@@ -19,7 +19,7 @@ use Rattle.events.specs.Parts.{plain_event}
 use Rattle.model.specs.Step.{step}
 use Rattle.rules.specs.Words.{Words, ◌has◌, words, at_most, Only, MC, TRS, TRR, CDR, TEC, REC, MODE, WAITING, SLOT, empty_slot}
 use Rattle.rules.specs.Image.{Good}
-use Rattle.rules.specs.Events.{Applies, not_good, is_unknown, is_asleep, not-allowed, is_busy, is_locked, slot_empty}
+use Rattle.rules.specs.Events.{Applies, not_good, is_unknown, is_asleep, not_allowed, is_busy, is_locked, slot_empty}
 use Rattle.rules.specs.Sending.{candidate, Unsent, unacknowledged_tec, Ending}
 use Rattle.rules.specs.Step.{Does}
 use Rattle.rules.proofs.Step.{step_meets, good-step}
@@ -70,7 +70,7 @@ module _ (s : List ℕ) (n : ℕ) (r : Ready s n) (room : words s TEC < 256) whe
   start_free k (not_good e d) = d r.good
   start_free k (is_unknown e d) = false≢true d
   start_free k (is_asleep e d) = false≢true d
-  start_free k (not-allowed e d) = false≢true d
+  start_free k (not_allowed e d) = false≢true d
   start_free k (is_busy e d) = false≢true (sym (rw r.vacant) ∙ d)
   start_free k (is_locked e d) = false≢true d
   start_free k (slot_empty e d) = false≢true d
@@ -95,7 +95,7 @@ module _ (s : List ℕ) (bytes : Bytes s) (good : Good s) (filled : words s SLOT
   outcome_free r (not_good e d) = d good
   outcome_free r (is_unknown e d) = false≢true (sym (le-ltb 3 k known) ∙ d)
   outcome_free r (is_asleep e d) = false≢true d
-  outcome_free r (not-allowed e d) = false≢true d
+  outcome_free r (not_allowed e d) = false≢true d
   outcome_free r (is_busy e d) = false≢true d
   outcome_free r (is_locked e d) = false≢true d
   outcome_free r (slot_empty e d) = false≢true (sym (ne_eqb (words s SLOT) empty_slot filled) ∙ d)

@@ -13,7 +13,7 @@ use Rattle.good.specs.Good.{good_image}
 use Rattle.refusals.specs.Refusal.{refusal}
 use Rattle.refusals.proofs.Order.{refusal-bad}
 use Rattle.rules.specs.Image.{Good}
-use Rattle.rules.specs.Events.{Applies, not_good, is_unknown, is_asleep, not-allowed, is_busy, is_locked, slot_empty, FirstRefusal}
+use Rattle.rules.specs.Events.{Applies, not_good, is_unknown, is_asleep, not_allowed, is_busy, is_locked, slot_empty, FirstRefusal}
 use Rattle.rules.proofs.Good.{good-rule, rule-good}
 use Rattle.rules.proofs.Refusals.{tests, same-refusal}
 
@@ -44,7 +44,7 @@ module _ (s e : List ℕ) (bytes : Bytes s) (small : Bytes e) where
   applies-at : (j : ℕ) → get_or (tests s e) j false ≡ true → Applies s e (2 + j)
   applies-at zero p = is_unknown refl p
   applies-at (suc zero) p = is_asleep refl p
-  applies-at (suc (suc zero)) p = not-allowed refl p
+  applies-at (suc (suc zero)) p = not_allowed refl p
   applies-at (suc (suc (suc zero))) p = is_busy refl p
   applies-at (suc (suc (suc (suc zero)))) p = is_locked refl p
   applies-at (suc (suc (suc (suc (suc zero))))) p = slot_empty refl p
@@ -57,7 +57,7 @@ module _ (s e : List ℕ) (bytes : Bytes s) (small : Bytes e) where
   among_tests g k (not_good q p) = absurd (p g)
   among_tests g k (is_unknown q p) = test_at 0 k q p
   among_tests g k (is_asleep q p) = test_at 1 k q p
-  among_tests g k (not-allowed q p) = test_at 2 k q p
+  among_tests g k (not_allowed q p) = test_at 2 k q p
   among_tests g k (is_busy q p) = test_at 3 k q p
   among_tests g k (is_locked q p) = test_at 4 k q p
   among_tests g k (slot_empty q p) = test_at 5 k q p
@@ -68,7 +68,7 @@ module _ (s e : List ℕ) (bytes : Bytes s) (small : Bytes e) where
   positive k (not_good q p) = omega arith
   positive k (is_unknown q p) = omega arith
   positive k (is_asleep q p) = omega arith
-  positive k (not-allowed q p) = omega arith
+  positive k (not_allowed q p) = omega arith
   positive k (is_busy q p) = omega arith
   positive k (is_locked q p) = omega arith
   positive k (slot_empty q p) = omega arith

@@ -128,7 +128,7 @@ pub data Applies (s e : List ℕ) (r : ℕ) : Type 0 where
   not_good : r ≡ 1 → (Good s → ⊥) → Applies s e r
   is_unknown : r ≡ 2 → unknown (operation e) e ≡ true → Applies s e r
   is_asleep : r ≡ 3 → asleep (operation e) (words s) ≡ true → Applies s e r
-  not-allowed : r ≡ 4 → (unused (operation e) e || bad (operation e) (words s) e) ≡ true → Applies s e r
+  not_allowed : r ≡ 4 → (unused (operation e) e || bad (operation e) (words s) e) ≡ true → Applies s e r
   is_busy : r ≡ 5 → busy (operation e) (words s) e ≡ true → Applies s e r
   is_locked : r ≡ 6 → locked (operation e) (words s) (box s (target e) 0) e ≡ true → Applies s e r
   slot_empty : r ≡ 7 → pointless (operation e) (words s) ≡ true → Applies s e r
