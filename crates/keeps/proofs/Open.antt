@@ -12,9 +12,9 @@ use Rattle.registers.specs.declared.Block.{Block}
 use Rattle.registers.specs.Block.{with_trs, with_trr, with_gif, with_tec, with_rec, with_mode, with_waiting, no_mode, empty_slot, bus_off_at, sleep}
 use Rattle.registers.specs.Status.{vacant, bus_off, passive, warning}
 use Rattle.registers.specs.Writes.{gif_with}
-use Rattle.registers.specs.Modes.{rises, risen, ready, wakes, entered, settled, falls_asleep}
+use Rattle.registers.specs.Modes.{rises, risen, ready, wakes, entered, falls_asleep}
 use Rattle.good.proofs.Facts.{senders, Core, GoodBlock, Sleeping}
-use Rattle.keeps.proofs.Words.{either, gif_lt}
+use Rattle.keeps.proofs.Words.{gif_lt}
 use Rattle.keeps.proofs.Keep.{keep_trs, keep_trr, keep_gif, keep_tec, keep_rec, keep_mode, keep_waiting}
 
 -- Only a mode request leaves a waiting 0, the normal mode, and then it can be taken.

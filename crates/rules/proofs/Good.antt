@@ -1,34 +1,23 @@
 -- The rule of a good image is the product's test, both ways.
-use Prim.Native.Nat.{ℕ, zero, suc, ◌+◌, ◌-◌, ◌*◌, ◌/◌, ◌%◌, ◌^◌, ◌<◌, ◌≤◌}
-use mathlib.Core.Path.{◌≡◌, refl, sym, ◌∙◌, ap, subst}
-use mathlib.Core.Bool.{Bool, true, false, ◌&&◌, ◌||◌, or-true, false≢true}
+use Prim.Native.Nat.{ℕ, ◌+◌, ◌-◌, ◌*◌, ◌%◌, ◌^◌, ◌<◌}
+use mathlib.Core.Path.{◌≡◌, refl, subst}
+use mathlib.Core.Bool.{Bool, true, false, ◌||◌, or-true}
 use mathlib.Core.List.{List, [], ◌∷◌}
-use native.Mathlib.Decide.{dec_lt}
 use native.Mathlib.Omega.{arith}
-use native.Mathlib.Nat.{mod-lt}
-use lib.Dec.{eqb, leb}
-use lib.Pow.{shr-shr, pow_pos}
-use borrow.Author.Tests.{eqb-true, eqb-false, eq-eqb, ne_eqb, leb-true, le-leb}
-use Rattle.bits.specs.Bit.{digit, bit}
+use lib.Dec.{eqb}
+use borrow.Author.Tests.{eqb-true, eq-eqb, le-leb}
+use Rattle.bits.specs.Bit.{bit}
 use Rattle.bits.specs.Tests.{gap_down}
-use Rattle.bits.proofs.Laws.{bit-zero, bit_high, same_below}
-use Rattle.bits.proofs.Sets.{both, and_l, and_r, top_up_lem, top_down_lem}
+use Rattle.bits.proofs.Sets.{both, and_l, and_r}
 use Rattle.words.specs.Word.{word_at, words_of}
-use Rattle.words.proofs.Bytes.{Bytes, word_lt}
-use Rattle.registers.specs.declared.Block.{Block}
-use Rattle.registers.specs.Block.{block_of, can_b, empty_slot}
-use Rattle.registers.specs.Status.{filled}
-use Rattle.registers.specs.Writes.{slot_mask}
-use Rattle.registers.proofs.Flags.{slot-bit}
+use Rattle.words.proofs.Bytes.{Bytes}
+use Rattle.registers.specs.Block.{block_of}
 use Rattle.mailboxes.specs.Mailbox.{ide, word_layout, layout}
 use Rattle.good.specs.Good.{good_spare, spare_words, good_mask, good_image}
-use Rattle.good.proofs.Facts.{senders, Senders, Core}
-use Rattle.good.proofs.Image.{GoodImage, image_facts, image-good}
-use Rattle.bits.proofs.Tests.{all, holds}
-use Rattle.rules.specs.Words.{◌has◌, words, box, among, TRS, TRR, TA, AA, CDR, MBTIF, RML, RFP, LAM, GAM, RMP, PROFILE, e_can, place, is_mask}
+use Rattle.good.proofs.Image.{image_facts, image-good}
+use Rattle.bits.proofs.Tests.{holds}
+use Rattle.rules.specs.Words.{words, box, among, LAM, GAM, place}
 use Rattle.rules.specs.Image.{Layout, GoodWords, Good}
-use Rattle.rules.proofs.Blocks.{among-all}
-use Rattle.rules.proofs.Receiving.{bit-mod}
 use Rattle.rules.proofs.GoodWords.{field_bits, bits_field, facts, gap, core}
 
 pub false_of : (t : Bool) → (t ≡ true → ⊥) → t ≡ false

@@ -1,7 +1,7 @@
 -- The words of a good image, by the rule and by the product's facts, both ways.
 use Prim.Native.Nat.{ℕ, zero, suc, ◌+◌, ◌-◌, ◌*◌, ◌/◌, ◌%◌, ◌^◌, ◌<◌, ◌≤◌}
 use mathlib.Core.Path.{◌≡◌, refl, sym, ◌∙◌, ap, subst}
-use mathlib.Core.Bool.{Bool, true, false, ◌&&◌, ◌||◌, or-true, false≢true}
+use mathlib.Core.Bool.{Bool, true, false, ◌&&◌, false≢true}
 use mathlib.Core.List.{List, [], ◌∷◌}
 use native.Mathlib.Decide.{dec_lt}
 use native.Mathlib.Omega.{arith}
@@ -10,9 +10,8 @@ use lib.Dec.{eqb, leb}
 use lib.Pow.{shr-shr, pow_pos}
 use borrow.Author.Tests.{eqb-true, eqb-false, eq-eqb, ne_eqb, leb-true, le-leb}
 use Rattle.bits.specs.Bit.{digit, bit}
-use Rattle.bits.specs.Tests.{gap_down}
 use Rattle.bits.proofs.Laws.{bit-zero, bit_high, same_below}
-use Rattle.bits.proofs.Sets.{both, and_l, and_r, top_up_lem, top_down_lem}
+use Rattle.bits.proofs.Sets.{and_l, and_r, top_up_lem, top_down_lem}
 use Rattle.words.specs.Word.{word_at, words_of}
 use Rattle.words.proofs.Bytes.{Bytes, word_lt}
 use Rattle.registers.specs.declared.Block.{Block}
@@ -20,13 +19,12 @@ use Rattle.registers.specs.Block.{block_of, can_b, empty_slot}
 use Rattle.registers.specs.Status.{filled}
 use Rattle.registers.specs.Writes.{slot_mask}
 use Rattle.registers.proofs.Flags.{slot-bit}
-use Rattle.mailboxes.specs.Mailbox.{ide, word_layout, layout}
-use Rattle.good.specs.Good.{good_spare, spare_words, good_mask, good_image}
+use Rattle.good.specs.Good.{good_spare, spare_words}
 use Rattle.good.proofs.Facts.{senders, Senders, Core}
-use Rattle.good.proofs.Image.{GoodImage, image_facts, image-good}
-use Rattle.bits.proofs.Tests.{all, holds}
-use Rattle.rules.specs.Words.{◌has◌, words, box, among, TRS, TRR, TA, AA, CDR, MBTIF, RML, RFP, LAM, GAM, RMP, PROFILE, e_can, place, is_mask}
-use Rattle.rules.specs.Image.{Layout, GoodWords, Good}
+use Rattle.good.proofs.Image.{GoodImage}
+use Rattle.bits.proofs.Tests.{all}
+use Rattle.rules.specs.Words.{◌has◌, words, among, TRS, TRR, TA, AA, CDR, MBTIF, RML, RFP, LAM, GAM, RMP, PROFILE, e_can, place, is_mask}
+use Rattle.rules.specs.Image.{GoodWords, Good}
 use Rattle.rules.proofs.Blocks.{among-all}
 use Rattle.rules.proofs.Receiving.{bit-mod}
 

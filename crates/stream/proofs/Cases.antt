@@ -3,13 +3,12 @@ use Prim.Native.Nat.{ℕ, ◌<◌, ◌≤◌}
 use mathlib.Core.Path.{◌≡◌, refl}
 use mathlib.Core.Bool.{Bool, true, false, cond}
 use mathlib.Core.List.{List, [], ◌∷◌, ◌++◌}
-use native.Mathlib.Omega.{arith}
-use lib.Dec.{eqb, ltb}
+use lib.Dec.{ltb}
 use lib.ListN.{length, get_or}
-use borrow.Author.Tests.{eqb-true, eqb-false, ltb-true, ltb-false, eq-eqb, ne_eqb, lt-ltb, le-ltb}
+use borrow.Author.Tests.{ltb-true, ltb-false}
 use Rattle.events.specs.Parts.{event_bytes}
 use Rattle.trace.specs.Trace.{most_events, count_at, takes}
-use Rattle.stream.specs.Stream.{Standing, Turn, behind, over, is_over, quietly, fault, waits, onward, counts, runs, gathers, turn}
+use Rattle.stream.specs.Stream.{Standing, Turn, behind, over, quietly, fault, waits, onward, counts, runs, gathers}
 
 -- what has come, with the byte
 abbrev pub with : Standing → ℕ → List ℕ

@@ -1,27 +1,20 @@
 -- The bytes of a state that is taken are those of what stands in it.
-use Prim.Native.Nat.{ℕ, zero, suc, ◌+◌, ◌-◌, ◌*◌, ◌/◌, ◌%◌, ◌<◌, ◌≤◌}
+use Prim.Native.Nat.{ℕ, ◌+◌, ◌-◌, ◌*◌, ◌/◌, ◌%◌, ◌<◌, ◌≤◌}
 use mathlib.Core.Path.{◌≡◌, refl, sym, ◌∙◌, ap, ap₂}
-use mathlib.Core.Bool.{Bool, true, false, cond, ◌||◌, false≢true}
+use mathlib.Core.Bool.{true}
 use mathlib.Core.List.{List, [], ◌∷◌, ◌++◌}
-use mathlib.Core.Logic.{◌≢◌}
 use native.Mathlib.Omega.{arith}
 use native.Mathlib.Nat.{zero-add}
-use lib.Dec.{eqb, ltb, leb}
-use lib.ListN.{length, take, drop, get_or, replicate, length-append, length-drop, length-replicate, take-append-drop, get_or-append}
-use lib.Seq.{take-append_seam, drop-append_seam, length-take-le, get_or-take, get_or-drop, drop-drop}
-use borrow.Author.Tests.{eqb-true, eqb-false, eq-eqb, ne_eqb, ltb-true, lt-ltb, leb-true, le-leb}
-use Rattle.bits.specs.Tests.{every}
+use lib.Dec.{eqb}
+use lib.ListN.{length, drop, get_or, replicate, length-drop, take-append-drop}
+use lib.Seq.{get_or-drop, drop-drop}
+use borrow.Author.Tests.{eqb-true}
 use Rattle.bits.proofs.Sets.{and_l, and_r}
-use Rattle.bits.proofs.Tests.{All, all, holds}
 use Rattle.words.specs.Word.{word_at}
-use Rattle.words.proofs.Bytes.{Bytes, bytes_take, bytes_drop}
-use Rattle.words.proofs.Laws.{bytes_of, word_by_bytes}
+use Rattle.words.proofs.Bytes.{Bytes, bytes_drop}
+use Rattle.words.proofs.Laws.{word_by_bytes}
 use Rattle.texts.specs.Text.{word_bytes}
-use Rattle.trace.specs.Trace.{takes}
-use Rattle.stream.specs.Stream.{Standing, at, behind, over}
-use Rattle.stream.specs.Calls.{state_of, standing, seen, known, whole, all_zero, ranges, ready}
-use Rattle.stream.specs.Terms.{Ready}
-use Rattle.stream.proofs.Ready.{whole-most, gathered-few, steps-few}
+use Rattle.stream.specs.Calls.{state_of, standing, seen, all_zero, ready}
 use Rattle.stream.proofs.State.{ranged, came, length_came}
 
 -- a digit to the base 256

@@ -1,22 +1,19 @@
 -- The state bytes tell where a stream stands, and those that a call takes are those of such a standing.
-use Prim.Native.Nat.{ℕ, zero, suc, ◌+◌, ◌-◌, ◌*◌, ◌/◌, ◌%◌, ◌<◌, ◌≤◌}
-use mathlib.Core.Path.{◌≡◌, refl, sym, ◌∙◌, ap, ap₂}
+use Prim.Native.Nat.{ℕ, zero, suc, ◌+◌, ◌-◌, ◌*◌, ◌<◌, ◌≤◌}
+use mathlib.Core.Path.{◌≡◌, refl, sym, ◌∙◌, ap}
 use mathlib.Core.Bool.{Bool, true, false, cond, ◌||◌, false≢true}
 use mathlib.Core.List.{List, [], ◌∷◌, ◌++◌}
 use mathlib.Core.Logic.{◌≢◌}
 use native.Mathlib.Omega.{arith}
-use native.Mathlib.Nat.{zero-add}
 use lib.Dec.{eqb, ltb, leb}
-use lib.ListN.{length, take, drop, get_or, replicate, length-append, length-drop, length-replicate, take-append-drop, get_or-append}
+use lib.ListN.{length, take, drop, get_or, replicate, length-append, length-drop, length-replicate, get_or-append}
 use lib.Seq.{take-append_seam, drop-append_seam, length-take-le, get_or-take, get_or-drop, drop-drop}
 use borrow.Author.Tests.{eqb-true, eqb-false, eq-eqb, ne_eqb, ltb-true, lt-ltb, leb-true, le-leb}
 use Rattle.bits.specs.Tests.{every}
-use Rattle.bits.proofs.Sets.{and_l, and_r}
 use Rattle.bits.proofs.Tests.{All, all, holds}
 use Rattle.words.specs.Word.{word_at}
 use Rattle.words.proofs.Bytes.{Bytes, bytes_take, bytes_drop}
-use Rattle.words.proofs.Laws.{bytes_of, word_by_bytes}
-use Rattle.texts.specs.Text.{word_bytes}
+use Rattle.words.proofs.Laws.{bytes_of}
 use Rattle.trace.specs.Trace.{takes}
 use Rattle.stream.specs.Stream.{Standing, at, behind, over}
 use Rattle.stream.specs.Calls.{state_of, standing, seen, known, whole, all_zero, ranges, ready}

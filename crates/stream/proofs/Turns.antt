@@ -2,14 +2,13 @@
 use Prim.Native.Nat.{ℕ, ◌<◌, ◌≤◌}
 use mathlib.Core.Path.{◌≡◌, refl}
 use mathlib.Core.Bool.{Bool, true, false, cond}
-use mathlib.Core.List.{List, [], ◌∷◌, ◌++◌}
+use mathlib.Core.List.{List}
 use native.Mathlib.Omega.{arith}
-use lib.Dec.{eqb, ltb}
+use lib.Dec.{eqb}
 use lib.ListN.{length, get_or}
-use borrow.Author.Tests.{eqb-true, eqb-false, ltb-true, ltb-false, eq-eqb, ne_eqb, lt-ltb, le-ltb}
-use Rattle.events.specs.Parts.{event_bytes}
+use borrow.Author.Tests.{eqb-true, eqb-false, eq-eqb, ne_eqb, lt-ltb, le-ltb}
 use Rattle.trace.specs.Trace.{most_events, count_at, takes}
-use Rattle.stream.specs.Stream.{Standing, Turn, behind, over, is_over, quietly, fault, waits, onward, counts, runs, gathers, turn}
+use Rattle.stream.specs.Stream.{Standing, behind, over, is_over, quietly, fault, waits, onward, counts, gathers, turn}
 use Rattle.stream.proofs.Cases.{Kind, still, surplus, counts_kind, gathers_kind, with}
 
 module _ (σ : Standing) (x : ℕ) where

@@ -1,5 +1,3 @@
-use Prim.Native.Nat.{◌+◌}
-use lib.ListN.{length}
 use Rattle.stream.proofs.Judging.{taken}
 use Rattle.stream.proofs.Leaving.{can_stand}
 use Rattle.words.specs.Bytes.{Bytes}
