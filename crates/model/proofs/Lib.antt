@@ -2,6 +2,8 @@
 pub mod Meets
 pub mod Beside
 pub mod Whole
+pub mod Housed
 pub mod Kept
+pub mod View
 pub mod Lengths
 mod Ends

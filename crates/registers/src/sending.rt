@@ -24,7 +24,7 @@ impl Block {
     }
 
     // The slot's mailbox was sent.
-    fn send(mut self) -> Block
+    pub fn send(mut self) -> Block
         requires { self.slot ≤ empty_slot }
         ensures { result ≡ sent self }
     {

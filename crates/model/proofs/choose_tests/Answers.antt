@@ -1,0 +1,19 @@
+use mathlib.Core.Path.{refl, sym, ◌∙◌, ap}
+use Rattle.registers.specs.declared.Block.{Block}
+use Rattle.registers.specs.Block.{put_block}
+use Rattle.registers.specs.Modes.{tested, risen}
+use Rattle.events.specs.declared.Event.TheVariants.{Tests}
+use Rattle.model.specs.Step.{own, named}
+use Rattle.model.proofs.Meets.{acts}
+use Rattle.model.proofs.choose_tests.Goals as goal
+
+pub returns : goal.returns
+unfolding own named
+returns c =
+    let s = c.args.image.now in
+    let v = c.args.v in
+    let b = c.load-b.result in
+    let l = c.load-b.ensures in
+    acts s b l (Tests v) (tested b v) s 32 (ap (λ (y : Block). tested y v) (sym l)) refl refl refl
+    (c.store.ensures ∙ ap (put_block s) (c.rise.ensures ∙ ap (risen b) c.with_tests.ensures))
+    c.pack.ensures
