@@ -6,7 +6,6 @@
  * it is drawn before the clock starts, and both sides get the same. A round lets each side go through the whole
  * stream; the best round counts. Answers, images, lists and texts must come out equal, so that no wrong work is
  * measured. Runs are of a CAN-B, but for the streams that name the eCAN or its guards, which are protected mailboxes.
- * The test modes are off, but for the last stream: sending in loop-back.
  *
  * In the end it says how many bytes of the stack each call of a stream takes.
  */
@@ -210,18 +209,6 @@ static size_t sending_event(uint8_t *event, const uint8_t *image)
     if (word_of(image, TRS) == 0 || draw(3) == 0)
         return given(event, write_register(TRS, one | other));
     return given(event, start());
-}
-
-/*
- * The lower half sends in loop-back, the upper receives, and most of what is sent is stored. Below mailbox 15 nobody sends
- * remote frames: one that replies to its own would be the next one to be sent, and so on.
- */
-static void looping_sender(uint8_t *image)
-{
-    on_bus(image, CAN_B, 0xFFFF0000);
-    put(image, TESTS, FROSTSORREL_LOOP_BACK);
-    for (int n = 0; n < 15; n++)
-        put(image, MAILBOX(n, 1), word_of(image, MAILBOX(n, 1)) & ~FROSTSORREL_RTR);
 }
 
 /* Nothing waits, and the lowest number would go first: a start looks for one, and finds none. */
@@ -561,39 +548,30 @@ __attribute__((noinline)) static void close_on_stack(void)
                        sizeof on_stack.text);
 }
 
-/*
- * The most that feeding so many events takes, from an opening on, in so much room. The image is made to hear frames:
- * mailbox 31 of a CAN-B always receives, and the state of a stream does not hang on the image.
- */
+/* The most that feeding so many events takes, from an opening on, in so much room. */
 static size_t feeding_stack(size_t events, size_t room)
 {
     open_on_stack();
-    put(on_stack.image, MODE, NORMAL_MODE);
-    put(on_stack.image, MC, 1u << 31);
     on_stack.part_len = 6 + events * EVENT_BYTES;
     on_stack.room = room;
     return stack_of(feed_on_stack);
 }
 
-/*
- * Frames of the third section, all of them stored, which takes more than a tick: one in a room that never gets a 9;
- * one, and five, which are more than 65 bytes, in just enough.
- */
+/* Ticks of the third section: one in a room that never gets a 9; one, and five, which are more than 65 bytes, in just enough. */
 static void print_stack(const char *who, const struct stream_calls *by)
 {
-    const size_t line = sizeof "1 0 31 1\n" - 1;
+    const size_t line = sizeof "1 0 32 0\n" - 1;
     size_t opening, roomy, tight, longer, closing;
 
     memset(on_stack.part, 0, sizeof on_stack.part);
     on_stack.part[4] = 5;
     for (size_t i = 6; i < sizeof on_stack.part; i += EVENT_BYTES)
-        memcpy(on_stack.part + i, data_frame(STANDARD(0), 8, 0).bytes, EVENT_BYTES);
+        on_stack.part[i] = FROSTSORREL_TICK;
     on_stack.by = by;
     opening = stack_of(open_on_stack);
     roomy = feeding_stack(1, sizeof on_stack.text);
     tight = feeding_stack(1, line);
     longer = feeding_stack(5, 5 * line);
-    check(word_of(on_stack.image, RML) == 1u << 31, "%s: the frames that are fed on the stack are not stored", who);
     closing = stack_of(close_on_stack);
     printf("bytes of the stack, %s: %lu opening, %lu feeding, %lu in a tight room, %lu of a longer part, %lu closing\n", who,
            (unsigned long)opening, (unsigned long)roomy, (unsigned long)tight, (unsigned long)longer,
@@ -621,7 +599,7 @@ static void say_where(unsigned long rounds, unsigned long seed)
 int main(int argc, char **argv)
 {
     unsigned long rounds = argument(argc, argv, 1, 15), seed = argument(argc, argv, 2, 1);
-    double ratios[16], worst = 0; /* one for each stream */
+    double ratios[15], worst = 0; /* one for each stream */
 
     if (rounds == 0 || rounds > MOST_ROUNDS)
         rounds = MOST_ROUNDS;
@@ -642,7 +620,6 @@ int main(int argc, char **argv)
     ratios[12] = measure("sending eCAN", sending_ecan, sending_event, rounds);
     ratios[13] = measure("mixed eCAN", ecan_image, likely_event, rounds);
     ratios[14] = measure_pairs("guards told", draw_guarded_questions, frostsorrel_explain, reference_explain, rounds);
-    ratios[15] = measure("loop-back", looping_sender, sending_event, rounds); /* last, so that the others stay as drawn */
     for (size_t i = 0; i < sizeof ratios / sizeof ratios[0]; i++)
         worst = ratios[i] > worst ? ratios[i] : worst;
     printf("worst ratio %26.3f\n", worst);

@@ -143,10 +143,9 @@ static const struct clause {
     {"TSC 65536 and options 65536", NORMAL, {SET(TSC, 65536), SET(OPTIONS, 65536)}, BAD},
     {"mode 4 and options 4", NORMAL, {SET(MODE, 4), SET(OPTIONS, 4)}, BAD},
     {"recovery 128 and TSO 128", BUS_OFF, {SET(RECOVERY, 128), SET(TSO, 128)}, BAD},
-    {"options 4 and test modes 4", NORMAL, {SET(OPTIONS, 4), SET(TESTS, 4)}, BAD},
-    {"test modes 4 and word 29", NORMAL, {SET(TESTS, 4), SET(SPARE, 4)}, BAD},
-    {"words 29 and 30", NORMAL, {SET(SPARE, 7), SET(SPARE + 1, 7)}, BAD},
-    {"words 30 and 31", NORMAL, {SET(SPARE + 1, 7), SET(SPARE + 2, 7)}, BAD},
+    {"words 28 and 29", NORMAL, {SET(SPARE, 7), SET(SPARE + 1, 7)}, BAD},
+    {"words 29 and 30", NORMAL, {SET(SPARE + 1, 7), SET(SPARE + 2, 7)}, BAD},
+    {"words 30 and 31", NORMAL, {SET(SPARE + 2, 7), SET(SPARE + 3, 7)}, BAD},
     {"RML and RFP without RMP", NORMAL, {SET(RML, 4), SET(RFP, 4)}, BAD},
     {"asleep, TEC and REC 1", ASLEEP, {SET(TEC, 1), SET(REC, 1)}, BAD},
     {"asleep, REC and TRS 1", ASLEEP, {SET(REC, 1), SET(TRS, 1)}, BAD},
@@ -169,11 +168,6 @@ static const struct clause {
     {"protection of what is held, and of what is not", NORMAL, {SET(PROTECTION, 6), SET(RMP, 2)}, GOOD},
     {"protection of a transmit mailbox", SENDING, {SET(PROTECTION, 8)}, GOOD},
     {"protection asleep", ASLEEP, {SET(PROTECTION, 0x80000001), SET(MASK(31), 0x9FFFFFFF)}, GOOD},
-    {"both test modes in configuration", FRESH, {SET(TESTS, 3)}, GOOD},
-    {"both test modes in suspend", FRESH, {SET(MODE, SUSPEND), SET(TESTS, 3)}, GOOD},
-    {"both test modes while sending", SENDING, {SET(TESTS, 3)}, GOOD},
-    {"both test modes in bus off", BUS_OFF, {SET(TESTS, 3)}, GOOD},
-    {"both test modes asleep", ASLEEP, {SET(TESTS, 3)}, GOOD},
     {"LAM, GAM and masks at once", NORMAL,
      {SET(LAM, 0x9FFFFFFF), SET(GAM, 0x9FFFFFFF), SET(MASK(0), 0x9FFFFFFF), SET(MASK(31), 0x9FFFFFFF)}, GOOD},
     /* the profile of the other one */
@@ -218,9 +212,9 @@ static const struct limit {
     {"REC", NORMAL, REC, 255},          {"mode", FRESH, MODE, 3},
     {"waiting mode", SENDING, WAITING, 4}, {"slot", NORMAL, SLOT, 32},
     {"recovery", BUS_OFF, RECOVERY, 127},  {"options", NORMAL, OPTIONS, 3},
-    {"TSO", NORMAL, TSO, 1},            {"test modes", NORMAL, TESTS, 3},
-    {"word 29", NORMAL, SPARE, 0},      {"word 30", NORMAL, SPARE + 1, 0},
-    {"word 31", NORMAL, SPARE + 2, 0},  {"profile", NORMAL, PROFILE, 1},
+    {"TSO", NORMAL, TSO, 1},            {"word 28", NORMAL, SPARE, 0},
+    {"word 29", NORMAL, SPARE + 1, 0},  {"word 30", NORMAL, SPARE + 2, 0},
+    {"word 31", NORMAL, SPARE + 3, 0},  {"profile", NORMAL, PROFILE, 1},
 };
 
 static inline void ask_limit(struct asked by, struct limit l)

@@ -3,8 +3,8 @@
  *
  * Each step draws an image and an event, hands both to both, and compares the answers and every byte,
  * those around the image too. The images: what a run from fresh has reached; good ones built word by
- * word, and what a few events make of them; either with one clause broken; eCANs that hold and protect much; such that
- * send in loop-back; any bytes; other lengths.
+ * word, and what a few events make of them; either with one clause broken; eCANs that hold and protect much; any bytes;
+ * other lengths.
  * Registers are read and models made fresh along the way, and pairs of images compared: equal ones, such
  * that differ in one word or in nearly all, two of a run, bad ones on either side, with too little room for
  * the list, just enough, and more. Frames are explained, most of them such that a mailbox matches or just misses,
@@ -16,9 +16,8 @@
  * 9 to 15 were stored, data and remote ones, and how many were refused for nothing but a DLC above 15. A third says how
  * many starts without MTOS took a mailbox of the lower and of the upper half, and how many found nothing to send. Then
  * come those of the eCAN: where its frames landed, what mailbox 31 did, which registers were refused in which profile, and
- * that both profiles were made fresh, reset, read and compared; then those of the test modes (compare_tests.c), in which
- * each sending in loop-back is also held to the library's own steps for a sending and for a frame. The last ones say what
- * the explanations and the streams have met.
+ * that both profiles were made fresh, reset, read and compared. The last ones say what the explanations and the streams
+ * have met.
  */
 #include <stdlib.h>
 
@@ -489,14 +488,14 @@ static void count_ecan(const struct trial *t, uint64_t answer)
 static uint8_t reached[BYTES]; /* by a run from a fresh model, of one profile after the other */
 static uint8_t built[BYTES];   /* word by word, then some events */
 
-enum source { REACHED, BUILT, REACHED_SPOILED, BUILT_SPOILED, OVERLOADED, LOOPING, ANY_BYTES, OTHER_LENGTH };
+enum source { REACHED, BUILT, REACHED_SPOILED, BUILT_SPOILED, OVERLOADED, ANY_BYTES, OTHER_LENGTH };
 
 static enum source draw_source(void)
 {
     uint32_t n = draw(100);
 
-    return n < 31 ? REACHED : n < 62 ? BUILT : n < 68 ? REACHED_SPOILED : n < 75 ? BUILT_SPOILED
-           : n < 86 ? OVERLOADED : n < 94 ? LOOPING : n < 97 ? ANY_BYTES : OTHER_LENGTH;
+    return n < 32 ? REACHED : n < 67 ? BUILT : n < 74 ? REACHED_SPOILED : n < 82 ? BUILT_SPOILED
+           : n < 94 ? OVERLOADED : n < 97 ? ANY_BYTES : OTHER_LENGTH;
 }
 
 static size_t other_length(void)
@@ -511,7 +510,6 @@ static void draw_image(uint8_t *image, enum source source)
     switch (source) {
     case ANY_BYTES: break;
     case OVERLOADED: overloaded_image(image); break;
-    case LOOPING: looping_image(image); break;
     case BUILT: case BUILT_SPOILED: memcpy(image, built, BYTES); break;
     default: memcpy(image, reached, BYTES);
     }
@@ -521,10 +519,6 @@ static size_t draw_event_for(uint8_t *event, const uint8_t *image, enum source s
 {
     if (source == OVERLOADED && draw(2))
         return frame_near_a_mailbox(event, image);
-    if (source == LOOPING && draw(8)) {
-        memcpy(event, outcome(SENT).bytes, EVENT_BYTES);
-        return EVENT_BYTES;
-    }
     return (source == REACHED ? likely_event : varied_event)(event, image);
 }
 
@@ -564,8 +558,6 @@ static void compare_step(unsigned long number)
     count_dlc(&t, ours.answer);
     count_start(&t, ours.answer);
     count_ecan(&t, ours.answer);
-    if (t.image_len == BYTES && t.event_len == EVENT_BYTES)
-        compare_tests(number, t.image, t.event, ours.answer, ours.arena + GUARD);
     if (source == REACHED)
         memcpy(reached, theirs.arena + GUARD, BYTES);
     if (source == BUILT)
@@ -574,10 +566,7 @@ static void compare_step(unsigned long number)
 
 /* ---- reads, and fresh models */
 
-enum read_met {
-    READ_GSR, GSR_IN_ECAN, GSR_ASLEEP, OWN_OF_CAN_B, OWN_OF_ECAN, OWN_READ_ASLEEP, COUNTERS_READ, TESTS_READ,
-    MADE_CAN_B, MADE_ECAN, NOT_MADE
-};
+enum read_met { READ_GSR, GSR_IN_ECAN, GSR_ASLEEP, OWN_OF_CAN_B, OWN_OF_ECAN, OWN_READ_ASLEEP, MADE_CAN_B, MADE_ECAN, NOT_MADE };
 
 static struct tally read_tallies[] = {
     [READ_GSR] = {"read", "GSR of a CAN-B", 0},
@@ -586,8 +575,6 @@ static struct tally read_tallies[] = {
     [OWN_OF_CAN_B] = {"read", "64 to 96 of a CAN-B", 0},
     [OWN_OF_ECAN] = {"read", "64 to 96 of an eCAN", 0},
     [OWN_READ_ASLEEP] = {"read", "of these asleep", 0},
-    [COUNTERS_READ] = {"read", "33 in test error mode, refused", 0},
-    [TESTS_READ] = {"read", "28 in a test mode, refused", 0},
     [MADE_CAN_B] = {"fresh", "CAN-Bs", 0},
     [MADE_ECAN] = {"fresh", "eCANs", 0},
     [NOT_MADE] = {"fresh", "refused for the profile", 0},
@@ -613,8 +600,6 @@ static void count_read(const struct trial *t, uint32_t name)
     read_met(OWN_OF_CAN_B, own && !is_ecan(t->image));
     read_met(OWN_OF_ECAN, own && is_ecan(t->image));
     read_met(OWN_READ_ASLEEP, own && asleep);
-    read_met(COUNTERS_READ, name == FROSTSORREL_COUNTERS && word_of(t->image, TESTS) & FROSTSORREL_TEST_ERROR);
-    read_met(TESTS_READ, name == FROSTSORREL_WORD_TESTS && word_of(t->image, TESTS) != 0);
 }
 
 /* A register, one beside those that are there, or any number. */
@@ -849,8 +834,8 @@ static void vary_some(uint8_t *image, uint32_t count)
 }
 
 /*
- * As unlike as can be, or nearly. Two good images never differ in all 194 words, and 190 are the most: words
- * 29 to 31 are always 0, and TRR, mode and recovery count cannot all differ. TRR needs a filled slot, a
+ * As unlike as can be, or nearly. Two good images never differ in all 194 words, and 189 are the most: words
+ * 28 to 31 are always 0, and TRR, mode and recovery count cannot all differ. TRR needs a filled slot, a
  * recovery count needs bus off; no image has both, and each of them is in normal mode.
  */
 static void vary_equal(uint8_t *image, const uint8_t *other)
@@ -1309,7 +1294,6 @@ int main(int argc, char **argv)
     char name[60];
 
     seed_generator(seed);
-    draw_tests(1);
     put_fresh(reached);
     good_image(built);
     for (unsigned long number = 1; number <= steps; number++) {
@@ -1331,7 +1315,6 @@ int main(int argc, char **argv)
     check_tallies("start", starts, STARTS, steps);
     check_tallies("eCAN", own_tallies, OWN_TALLIES, steps);
     check_tallies("both profiles", read_tallies, READ_TALLIES, steps);
-    check_tests(steps);
     check_tallies("explain", tallies, TALLIES, steps);
     check_streams(steps);
     snprintf(name, sizeof name, "host compare, %lu steps, seed %lu", steps, seed);

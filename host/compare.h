@@ -12,19 +12,13 @@
 
 #define GUARD 13 /* bytes around what is lent; odd, so that it does not stand at an even address */
 #define MOST_SHOWN 3      /* disagreements of a kind */
-#define LONG_ENOUGH 20000 /* steps, in which everything is met that is counted */
+#define LONG_ENOUGH 10000 /* steps, in which everything is met that is counted */
 
 /* A stream, from its opening to what comes after its end, with calls along the way that are not its own. */
 void compare_stream(unsigned long number);
 
 /* Of all streams of so many steps: what they met. */
 void check_streams(unsigned long steps);
-
-/* A step of an image of 776 bytes and an event of 16, with the answer and what it left: what is met of the test modes. */
-void compare_tests(unsigned long number, const uint8_t *before, const uint8_t *event, uint64_t answer, const uint8_t *after);
-
-/* The same of all steps. */
-void check_tests(unsigned long steps);
 
 static inline void print_answer(const char *who, uint64_t answer)
 {

@@ -224,7 +224,6 @@ int main(int argc, char **argv)
     }
     count = strtoul(argv[2], NULL, 10);
     seed_generator(strtoul(argv[3], NULL, 10));
-    draw_tests(1);
     for (unsigned long number = 1; number <= count; number++) {
         kind_of(number)(&t);
         write_file(argv[1], number, "trace", t.bytes, t.len);

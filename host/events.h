@@ -1,4 +1,4 @@
-/* The events of documents 01 and 02, built by name. */
+/* The events of document 01, built by name. */
 #ifndef EVENTS_H
 #define EVENTS_H
 
@@ -95,17 +95,6 @@ static inline struct event options(uint32_t value)
 static inline struct event reset(void)
 {
     return plain_event(FROSTSORREL_RESET, 0, 0, 0);
-}
-
-static inline struct event tests(uint32_t value)
-{
-    return plain_event(FROSTSORREL_TESTS, 0, 0, value);
-}
-
-/* TEC and REC, in test error mode. */
-static inline struct event write_counters(uint32_t value)
-{
-    return plain_event(FROSTSORREL_WRITE_REGISTER, FROSTSORREL_COUNTERS, 0, value);
 }
 
 /* The event with one byte changed. */

@@ -21,8 +21,6 @@ static enum weather {
     ALONE   /* hardly anything that is sent is acknowledged */
 } weather;
 
-static int with_tests; /* the test modes are drawn too */
-
 /* xorshift64*: Vigna, "An experimental exploration of Marsaglia's xorshift generators". */
 static uint32_t any_word(void)
 {
@@ -38,11 +36,6 @@ void seed_generator(uint64_t seed)
     weather = FAIR;
     for (int i = 0; i < 8; i++)
         any_word();
-}
-
-void draw_tests(int too)
-{
-    with_tests = too;
 }
 
 uint32_t draw(uint32_t below)
@@ -104,14 +97,6 @@ static uint32_t any_identifier(void)
     if (one_in(2))
         return STANDARD(base);
     return EXTENDED(base, one_in(12) ? draw(0x40000) : ONE_OF(lows));
-}
-
-/* Loop-back is on oftener than not. */
-static uint32_t any_tests(void)
-{
-    static const uint32_t likely[] = {FROSTSORREL_LOOP_BACK, FROSTSORREL_LOOP_BACK | FROSTSORREL_TEST_ERROR};
-
-    return one_in(3) ? draw(4) : ONE_OF(likely);
 }
 
 static uint32_t any_profile(void)
@@ -216,24 +201,6 @@ static uint32_t any_timing(void)
     return one_in(4) ? ONE_OF(edges) : 0x25;
 }
 
-/* On both sides of 96, 127 and 255, or any. */
-static uint32_t any_count(void)
-{
-    static const uint32_t edges[] = {0, 1, 95, 96, 97, 126, 127, 128, 254, 255, 256, 257};
-
-    return one_in(2) ? draw(256) : ONE_OF(edges);
-}
-
-static struct event any_counter_write(void)
-{
-    return write_counters(one_in(16) ? edge_value() : any_count());
-}
-
-static int has_test(const uint8_t *image, uint32_t which)
-{
-    return (word_of(image, TESTS) & which) != 0;
-}
-
 static int is_ecan(const uint8_t *image)
 {
     return word_of(image, PROFILE) == ECAN;
@@ -280,8 +247,6 @@ static struct event any_register_write(const uint8_t *image)
         return any_own_write(image);
     if (is_ecan(image) && one_in(5))
         return any_write_at_31(image);
-    if (with_tests && one_in(has_test(image, FROSTSORREL_TEST_ERROR) ? 5 : 30))
-        return any_counter_write();
     switch (word) {
     case RML: case RFP: return write_register(refused ? word : TRS, any_flags());
     case MC: return write_register(MC, any_flags() | any_flags());
@@ -406,34 +371,13 @@ static enum weather any_weather(void)
     return ONE_OF(likely);
 }
 
-/* What the test modes need besides: a suspend now and then, a switch there, and writes of the counters in bus off. */
-static int is_test_event(const uint8_t *image, struct event *e)
-{
-    uint32_t present = word_of(image, MODE);
-
-    if (present == SUSPEND && one_in(4))
-        *e = tests(any_tests());
-    else if (present == NORMAL_MODE && !has_test(image, FROSTSORREL_LOOP_BACK) && one_in(40))
-        *e = mode(SUSPEND);
-    else if (word_of(image, TEC) == BUS_OFF_TEC && one_in(16))
-        *e = any_counter_write();
-    else if (one_in(100))
-        *e = tests(draw(5));
-    else
-        return 0;
-    return 1;
-}
-
 /* Each state gets what moves it on, so that a run does not rest in one of them. */
 static struct event next_event(const uint8_t *image)
 {
     uint32_t present = word_of(image, MODE);
-    struct event e;
 
     if (one_in(300))
         weather = any_weather();
-    if (with_tests && is_test_event(image, &e))
-        return e;
     if (present == CONFIGURATION && word_of(image, MC) == 0 && !one_in(40))
         return any_setup(image);
     if (present == CONFIGURATION && one_in(3))
@@ -459,20 +403,10 @@ static int edge_register(void)
     return one_in(2) ? ONE_OF(edges) : (int)draw(FROSTSORREL_PROTECTION + 2);
 }
 
-/* A switch or a counter write, whatever the state. */
-static struct event any_test_event(void)
-{
-    if (one_in(2))
-        return any_counter_write();
-    return tests(one_in(8) ? edge_value() : draw(5));
-}
-
 static struct event event_of_any_operation(const uint8_t *image)
 {
     int number = edge_register();
 
-    if (with_tests && one_in(12))
-        return any_test_event();
     if (word_of(image, SLOT) != EMPTY_SLOT && one_in(3))
         return outcome((int)draw(5));
     switch (draw(16)) {
@@ -578,14 +512,6 @@ static void put_masks(uint8_t *image)
     put(image, PROTECTION, any_protection(image));
 }
 
-/* One mailbox in so many has this identifier. */
-static void share_identifier(uint8_t *image, uint32_t identifier, uint32_t in)
-{
-    for (int n = 0; n < FROSTSORREL_MAILBOXES; n++)
-        if (one_in(in))
-            put(image, MAILBOX(n, 0), identifier | (word_of(image, MAILBOX(n, 0)) & (MASKED | RFH)));
-}
-
 /* Much is enabled, held and protected, and many mailboxes share an identifier: frames go past several. */
 static void put_overload(uint8_t *image)
 {
@@ -594,7 +520,9 @@ static void put_overload(uint8_t *image)
     put(image, MC, word_of(image, MC) | any_word());
     put(image, RMP, word_of(image, RMP) | any_word());
     put(image, PROTECTION, word_of(image, PROTECTION) | any_word());
-    share_identifier(image, shared, 2);
+    for (int n = 0; n < FROSTSORREL_MAILBOXES; n++)
+        if (one_in(2))
+            put(image, MAILBOX(n, 0), shared | (word_of(image, MAILBOX(n, 0)) & (MASKED | RFH)));
 }
 
 static void put_in_slot(uint8_t *image)
@@ -647,8 +575,6 @@ void good_image_of(uint8_t *image, uint32_t profile)
     put_masks(image);
     if (is_ecan(image) && one_in(2))
         put_overload(image);
-    if (with_tests)
-        put(image, TESTS, any_tests());
     put(image, MODE, NORMAL_MODE);
     switch (draw(10)) {
     case 0: put(image, MODE, CONFIGURATION); return;
@@ -683,21 +609,6 @@ void overloaded_image(uint8_t *image)
     put_overload(image);
     if (one_in(4))
         put_request_at_31(image);
-}
-
-/* The rest of a good image does not matter to it; few have the sender's identifier, so that some are compared first. */
-void looping_image(uint8_t *image)
-{
-    uint32_t shared = any_identifier(), sender;
-
-    do
-        good_image(image);
-    while (word_of(image, SLOT) == EMPTY_SLOT);
-    sender = word_of(image, SLOT);
-    put(image, TESTS, word_of(image, TESTS) | FROSTSORREL_LOOP_BACK);
-    put(image, MC, word_of(image, MC) | any_word());
-    share_identifier(image, shared, 4);
-    put(image, MAILBOX((int)sender, 0), shared | (word_of(image, MAILBOX((int)sender, 0)) & (MASKED | RFH)));
 }
 
 static void flip(uint8_t *image, int word, uint32_t bits)

@@ -12,12 +12,6 @@
 
 void seed_generator(uint64_t seed);
 
-/*
- * Whether the test modes are drawn from now on: images in which they are on, switches, and writes of the counters. They
- * are not at first, and without them a seed gives what it gave before there were any.
- */
-void draw_tests(int too);
-
 /* A number below this one, which is not 0. */
 uint32_t draw(uint32_t below);
 
@@ -46,9 +40,6 @@ void good_image_of(uint8_t *image, uint32_t profile);
 
 /* One of an eCAN that hears frames: much of it is held and protected. In some, mailbox 31 alone is to be sent. */
 void overloaded_image(uint8_t *image);
-
-/* One in which a mailbox is being sent in loop-back, its identifier is that of some others, and a mode may wait. */
-void looping_image(uint8_t *image);
 
 /* Breaks one clause of the rule for good images, most of the time. */
 void spoil(uint8_t *image);

@@ -17,8 +17,7 @@
 /* The register words stand behind the words of the mailboxes; then what an eCAN has of its own, and the profile. */
 enum {
     MC = MAILBOX(FROSTSORREL_MAILBOXES, 0), MD, TRS, TRR, TA, AA, RMP, RML, LAM, GAM, RFP, CDR, MBTIF,
-    MBRIF, MBIM, GIF, GIM, BCR1, BCR2, TSC, TEC, REC, MODE, WAITING, SLOT, RECOVERY, OPTIONS, TSO, TESTS,
-    SPARE,
+    MBRIF, MBIM, GIF, GIM, BCR1, BCR2, TSC, TEC, REC, MODE, WAITING, SLOT, RECOVERY, OPTIONS, TSO, SPARE,
     MASKS = MC + 32, PROTECTION = MASKS + FROSTSORREL_MAILBOXES, PROFILE
 };
 #define MASK(n) (MASKS + (n))

@@ -1,7 +1,6 @@
 /*
  * Document 01, and of document 02 the comparison of two images, the outcome for a missing acknowledgement,
- * DLC 9 to 15, the explainer, the eCAN and the two test modes, in plain C. "D12" and the like are entries of
- * docs/DECISIONS.md.
+ * DLC 9 to 15, the explainer and the eCAN, in plain C. "D12" and the like are entries of docs/DECISIONS.md.
  * Traces in parts have a file of their own, so that the code of a step stays where it is.
  */
 #include "reference.h"
@@ -24,7 +23,7 @@
 
 enum {
     MC = 128, MD, TRS, TRR, TA, AA, RMP, RML, LAM, GAM, RFP, CDR, MBTIF, MBRIF, MBIM, GIF, GIM,
-    BCR1, BCR2, TSC, TEC, REC, MODE, WAITING, SLOT, RECOVERY, OPTIONS, TSO, TESTS, SPARE,
+    BCR1, BCR2, TSC, TEC, REC, MODE, WAITING, SLOT, RECOVERY, OPTIONS, TSO, SPARE,
     MASKS = 160, PROTECTION = 192, PROFILE
 };
 enum { CAN_B, ECAN };
@@ -47,7 +46,6 @@ enum { EMPTY = 32, BUS_OFF = 256, NO_MAILBOX = 32 };
 #define MAILBOX_31 0x80000000u
 
 enum { MTOS = 1, WUBA = 2 };
-enum { LOOP_BACK = 1, TEST_ERROR = 2 };
 enum { OVERFLOWED = 0x08, ABORTED = 0x10, LOST = 0x20, WOKEN = 0x40, REMOTE_CAME = 0x80 }; /* GIF */
 
 static inline uint32_t get(const uint8_t *image, unsigned word)
@@ -193,9 +191,9 @@ static inline uint32_t stray_bits(const uint8_t *image)
     return ((get(image, LAM) | get(image, GAM)) & MASK_SPARE) |
            ((get(image, GIF) | get(image, GIM) | get(image, REC)) & ~0xFFu) |
            ((get(image, BCR1) | get(image, BCR2)) & ~0x3FFu) | (get(image, TSC) & ~0xFFFFu) |
-           ((get(image, MODE) | get(image, OPTIONS) | get(image, TESTS)) & ~3u) | (get(image, RECOVERY) & ~127u) |
+           ((get(image, MODE) | get(image, OPTIONS)) & ~3u) | (get(image, RECOVERY) & ~127u) |
            ((get(image, TSO) | get(image, PROFILE)) & ~1u) | get(image, SPARE) | get(image, SPARE + 1) |
-           get(image, SPARE + 2);
+           get(image, SPARE + 2) | get(image, SPARE + 3);
 }
 
 /* Bits that stand where another word does not let them. */
@@ -425,43 +423,14 @@ static uint64_t write_own(uint8_t *image, struct event e)
     return ACCEPTED;
 }
 
-enum { COUNTERS = 33, MOST_WRITTEN = 255 };
-
-/* TEC and REC at once, which only test error mode lets the firmware write. It is no way out of bus off. */
-static uint64_t write_counters(uint8_t *image, struct event e)
-{
-    uint32_t before = conditions(image), v = value(e);
-
-    if (asleep(image))
-        return refused(ASLEEP);
-    if (dirty(e, WORD) || v > MOST_WRITTEN)
-        return refused(NOT_ALLOWED);
-    if (!(get(image, TESTS) & TEST_ERROR) || before & OFF_BUS)
-        return refused(LOCKED);
-    set(image, TEC, v);
-    set(image, REC, v);
-    set_bits(image, GIF, conditions(image) & ~before);
-    return ACCEPTED;
-}
-
-/* Behind TSC: what has a number, and is not written as the registers before it are. */
-static uint64_t write_behind(uint8_t *image, struct event e)
-{
-    if (is_of_ecan(target(e)))
-        return write_own(image, e);
-    if (target(e) == COUNTERS)
-        return write_counters(image, e);
-    return refused(UNKNOWN);
-}
-
 static uint64_t write_register(uint8_t *image, struct event e)
 {
     unsigned r = MC + target(e);
     uint32_t v = value(e);
 
-    if (r > TSC)
-        return write_behind(image, e);
-    if (r == RML || r == RFP)
+    if (is_of_ecan(target(e)))
+        return write_own(image, e);
+    if (r > TSC || r == RML || r == RFP)
         return refused(UNKNOWN);
     if (asleep(image))
         return refused(ASLEEP);
@@ -676,13 +645,6 @@ static uint64_t deliver(uint8_t *image, struct match m, struct event e)
     return found(m.mailbox, m.count);
 }
 
-/* An event that brings a frame, heard: from the bus, or from the model itself in loop-back. REC can only fall. */
-static uint64_t hear(uint8_t *image, struct event e)
-{
-    count_good_frame(image);
-    return deliver(image, search(image, value(e)), e);
-}
-
 static uint64_t receive(uint8_t *image, struct event e)
 {
     if (!allowed_frame(e))
@@ -694,7 +656,8 @@ static uint64_t receive(uint8_t *image, struct event e)
             wake(image);
         return ACCEPTED;
     }
-    return hear(image, e);
+    count_good_frame(image);
+    return deliver(image, search(image, value(e)), e);
 }
 
 static uint64_t receive_error(uint8_t *image, struct event e)
@@ -789,28 +752,6 @@ static void not_sent(uint8_t *image, uint32_t bit)
     set_bits(image, GIF, ABORTED);
 }
 
-/* What mailbox n has sent, as an event that brings it: its DLC as it stands, and no byte that is not carried. */
-static struct event frame_of(const uint8_t *image, uint32_t n)
-{
-    uint32_t first = get(image, 4 * n), control = get(image, 4 * n + 1);
-    uint64_t frame = (first & (IDE | IDENTIFIER)) | (control & RTR ? FRAME_RTR : 0);
-    struct event e = {frame << 32 | (control & HIGHEST_DLC) << 8, get_double(image + 16 * n + 8)};
-
-    e.data &= carried(e);
-    return e;
-}
-
-/*
- * In loop-back the model hears what it has sent, and a sender may be the one that its own remote frame matches. A
- * filled slot was in normal mode and not in bus off, so that it is heard. Answers how many were compared.
- */
-static uint32_t loop_back(uint8_t *image, uint32_t n)
-{
-    if (!(get(image, TESTS) & LOOP_BACK))
-        return 0;
-    return (uint32_t)(hear(image, frame_of(image, n)) >> 16);
-}
-
 enum { SENT, ARBITRATION_LOST, ERROR, UNACKNOWLEDGED };
 
 /*
@@ -832,7 +773,7 @@ static void count_send_error(uint8_t *image, uint32_t how)
 
 static uint64_t outcome(uint8_t *image, struct event e)
 {
-    uint32_t how = target(e), n = get(image, SLOT), count = 0;
+    uint32_t how = target(e), n = get(image, SLOT);
 
     if (how > UNACKNOWLEDGED)
         return refused(UNKNOWN);
@@ -841,16 +782,14 @@ static uint64_t outcome(uint8_t *image, struct event e)
     if (n == EMPTY)
         return refused(NOTHING_SENT);
     set(image, SLOT, EMPTY);
-    if (how == SENT) {
+    if (how == SENT)
         sent(image, n);
-        count = loop_back(image, n);
-    } else {
+    else
         not_sent(image, 1u << n);
-    }
     if (how == ERROR || how == UNACKNOWLEDGED)
         count_send_error(image, how);
     take_waiting_mode(image);
-    return found(n, count);
+    return found(n, 0);
 }
 
 /* ---- the rest of the bus and the clock */
@@ -897,17 +836,6 @@ static uint64_t set_options(uint8_t *image, struct event e)
     if (dirty(e, TARGET | WORD) || value(e) > (MTOS | WUBA))
         return refused(NOT_ALLOWED);
     set(image, OPTIONS, value(e));
-    return ACCEPTED;
-}
-
-/* Sleep is no suspend, so that it gets 6 there too. */
-static uint64_t set_tests(uint8_t *image, struct event e)
-{
-    if (dirty(e, TARGET | WORD) || value(e) > (LOOP_BACK | TEST_ERROR))
-        return refused(NOT_ALLOWED);
-    if (get(image, MODE) != SUSPEND)
-        return refused(LOCKED);
-    set(image, TESTS, value(e));
     return ACCEPTED;
 }
 
@@ -964,7 +892,6 @@ uint64_t reference_step(uint8_t *image, size_t image_len, const uint8_t *event, 
     case 8: return request_mode(image, e);
     case 9: return set_options(image, e);
     case 10: return reset(image, e);
-    case 11: return set_tests(image, e);
     default: return refused(UNKNOWN);
     }
 }
@@ -997,7 +924,7 @@ static uint32_t read_word(const uint8_t *image, unsigned at)
     return asleep(image) ? 0 : get(image, at);
 }
 
-/* An eCAN has no GSR. What only it has can be read of a CAN-B too. The counters are read as TEC and REC. */
+/* An eCAN has no GSR. What only it has can be read of a CAN-B too. */
 uint64_t reference_read(const uint8_t *image, size_t image_len, uint32_t number)
 {
     if (!good(image, image_len))

@@ -1,7 +1,4 @@
-/*
- * The scenarios of the step's test: a file for each section of document 01 or part of one, one for the eCAN, one for
- * the test modes.
- */
+/* The scenarios of the step's test, a file for each section of document 01 or part of one, and one for the eCAN. */
 #ifndef STEP_H
 #define STEP_H
 
@@ -11,6 +8,5 @@ void step_receiving(void);
 void step_sending(void);
 void step_modes(void);
 void step_ecan(void);
-void step_tests(void);
 
 #endif

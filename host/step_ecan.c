@@ -336,7 +336,7 @@ static void refusals_of_these_writes(void)
 {
     begin_ecan("no such register", NORMAL);
     for (int number = 20; number <= 255; number++)
-        if (number != FROSTSORREL_COUNTERS && (number < FROSTSORREL_MASK_0 || number > FROSTSORREL_PROTECTION))
+        if (number < FROSTSORREL_MASK_0 || number > FROSTSORREL_PROTECTION)
             refuse(plain_event(FROSTSORREL_WRITE_REGISTER, number, 0, 0), 2);
     refuse(with_byte(plain_event(FROSTSORREL_WRITE_REGISTER, 97, 0, 1), 15, 1), 2);
 

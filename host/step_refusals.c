@@ -41,7 +41,7 @@ static void lengths(void)
 static void judge_by_step(const char *what, const uint8_t *given_image, int good)
 {
     uint8_t bytes[BYTES];
-    struct event ticked = tick(), unknown = plain_event(12, 0, 0, 0);
+    struct event ticked = tick(), unknown = plain_event(11, 0, 0, 0);
     uint64_t answer;
 
     memcpy(bytes, given_image, BYTES);
@@ -58,7 +58,7 @@ static void refusal_1_comes_first(void)
 {
     begin("a bad image", NORMAL);
     given({SPARE, 1});
-    for (int operation = 0; operation <= 12; operation++) {
+    for (int operation = 0; operation <= 11; operation++) {
         refuse(plain_event(operation, 0, 0, 0), 1);
         refuse(plain_event(operation, 0xFF, 0xFF, 0xFFFFFFFF), 1);
     }
@@ -68,10 +68,10 @@ static void refusal_1_comes_first(void)
 static void refusal_2(void)
 {
     begin("no such thing", SENDING);
-    for (int operation = 12; operation <= 255; operation++)
+    for (int operation = 11; operation <= 255; operation++)
         refuse(plain_event(operation, 0, 0, 0), 2);
     for (int number = 20; number <= 255; number++)
-        if (number != FROSTSORREL_COUNTERS && (number < FROSTSORREL_MASK_0 || number > FROSTSORREL_PROTECTION))
+        if (number < FROSTSORREL_MASK_0 || number > FROSTSORREL_PROTECTION)
             refuse(plain_event(FROSTSORREL_WRITE_REGISTER, number, 0, 0), 2);
     refuse(write_register(RML, 0), 2);
     refuse(write_register(RFP, 0), 2);
@@ -98,7 +98,7 @@ static void refusal_2_wins(void)
     refuse(with_byte(write_mailbox(33, 1, 0x20), 15, 1), 2);
     refuse(write_mailbox(0, 5, 0xFFFFFFFF), 2);
     refuse(with_byte(outcome(4), 2, 1), 2); /* and 7: the slot is empty */
-    refuse(with_byte(plain_event(12, 1, 1, 1), 3, 1), 2);
+    refuse(with_byte(plain_event(11, 1, 1, 1), 3, 1), 2);
     begin("2 and 5", SENDING);
     refuse(write_mailbox(3, 4, 0), 2);
     begin("2 and 6", NORMAL);

@@ -208,7 +208,7 @@ static int expect_word(const uint8_t *image, int word)
     return tried;
 }
 
-/* Each word can differ alone, but for the three behind the test modes, which are 0 in every good image. */
+/* Each word can differ alone, but for the four behind TSO, which are 0 in every good image. */
 static void test_each_word(uint32_t profile)
 {
     uint8_t image[BYTES];
@@ -228,11 +228,11 @@ static void test_each_word(uint32_t profile)
 
 /*
  * Three good images: of a CAN-B with a mailbox in the slot, and of eCANs in configuration and in bus off. At most
- * 190 words can differ: the three behind the test modes are 0; and where TRR and the recovery count differ, one image has a
+ * 189 words can differ: the four behind TSO are 0; and where TRR and the recovery count differ, one image has a
  * mailbox in the slot and the other is in bus off, so that both are in normal mode.
  */
 enum { SLOT_FILLED, CONFIGURED, OFF };
-#define MOST_WORDS (WORDS - 3 - 1)
+#define MOST_WORDS (WORDS - 4 - 1)
 
 static const uint32_t registers[][3] = {
     {0xF1234667, 0x0EDCB998, 0x00000000}, /* MC, with mailbox 9 where that is in the slot */
@@ -263,7 +263,6 @@ static const uint32_t registers[][3] = {
     {0, 0, 127},                          /* recovery count */
     {3, 0, 1},                            /* options */
     {1, 0, 0},                            /* TSO */
-    {2, 3, 1},                            /* test modes */
 };
 
 static void put_image(uint8_t *image, int which)
@@ -285,15 +284,15 @@ static void put_image(uint8_t *image, int which)
     put(image, PROFILE, which == SLOT_FILLED ? CAN_B : ECAN);
 }
 
-/* Which word stands in this entry, where all but those behind the test modes and this one differ. */
+/* Which word stands in this entry, where all but those behind TSO and this one differ. */
 static uint32_t word_of_entry(int entry, int equal)
 {
     int word = entry < equal ? entry : entry + 1;
 
-    return (uint32_t)(word < SPARE ? word : word + 3);
+    return (uint32_t)(word < SPARE ? word : word + 4);
 }
 
-/* All words of two of these but those behind the test modes and this one. */
+/* All words of two of these but those behind TSO and this one. */
 static void expect_all_but(const char *what, int one, int other, int equal)
 {
     uint8_t first[BYTES], second[BYTES];

@@ -204,7 +204,6 @@ static void put_distinct(uint8_t *image, uint32_t profile)
     put(image, PROTECTION, 0xC0FFEE11);
     for (size_t k = 0; k < COUNT(distinct); k++)
         put(image, MC + (int)k, distinct[k]);
-    put(image, TESTS, 3); /* neither 28 nor 33 can be read, also where they can be written */
 }
 
 /* GSR reads this in a CAN-B, and is refused in an eCAN. */

@@ -336,11 +336,6 @@ static void bits(void)
     same_number("word 0", FROSTSORREL_IDE | FROSTSORREL_GAME | FROSTSORREL_RFH | FROSTSORREL_IDENTIFIER_BITS,
                 0xFFFFFFFF);
     same_number("word 1", FROSTSORREL_RTR | FROSTSORREL_DLC_BITS, 0x1F);
-    same_number("loop-back", FROSTSORREL_LOOP_BACK, 1);
-    same_number("test error", FROSTSORREL_TEST_ERROR, 2);
-    same_number("both counters", FROSTSORREL_COUNTERS, 33);
-    same_number("the operation of the test modes", FROSTSORREL_TESTS, 11);
-    same_number("the word of the test modes", FROSTSORREL_WORD_TESTS, 28);
 }
 
 /* ---- names: each table to its end, and a number behind it */
@@ -359,7 +354,7 @@ static void names(void)
 {
     static const char *const operations[] = {"register write", "mailbox write", "frame", "start", "outcome",
                                              "receive error", "eleven recessive bits", "tick", "mode",
-                                             "options", "reset", "test modes"};
+                                             "options", "reset"};
     static const char *const outcomes[] = {"sent", "arbitration lost", "error", "no acknowledgement"};
     static const char *const modes[] = {"normal", "configuration", "sleep", "suspend", "none"};
     static const char *const reason_names[] = {"no name",     "disabled", "transmits", "IDE differs",
@@ -369,8 +364,8 @@ static void names(void)
                                            "busy", "locked", "slot empty", "bad trace", "no room"};
     static const char *const in_reason[] = {"taken", "the image is not", "there is no such", "while the model sleeps",
                                             "the value, the DLC or the profile", "being sent, or waits",
-                                            "in this mode, test mode or profile, in bus off",
-                                            "an outcome came while nothing", "three sections", "does not fit"};
+                                            "in this mode or profile", "an outcome came while nothing", "three sections",
+                                            "does not fit"};
 
     names_are("operation", frostsorrel_operation_name, operations, COUNT(operations));
     names_are("outcome", frostsorrel_outcome_name, outcomes, COUNT(outcomes));
@@ -402,8 +397,7 @@ static void register_names(void)
         {FROSTSORREL_WORD_RECOVERY, "recovery count"},
         {FROSTSORREL_WORD_OPTIONS, "options"},
         {FROSTSORREL_WORD_TSO, "TSO"},
-        {FROSTSORREL_WORD_TESTS, "test modes"},
-        {29, "word 29"}, {31, "word 31"}, {FROSTSORREL_COUNTERS, "COUNTERS"}, {34, "no name"}, {63, "no name"},
+        {28, "word 28"}, {31, "word 31"}, {33, "no name"}, {63, "no name"},
         {FROSTSORREL_PROTECTION, "PROTECTION"}, {97, "no name"}, {0xFFFFFFFF, "no name"},
     };
     char mask[16];

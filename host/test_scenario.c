@@ -291,7 +291,6 @@ int main(int argc, char **argv)
     struct text whole = {0}, trace = {0};
 
     seed_generator(argc > 2 ? strtoul(argv[2], 0, 10) : 1);
-    draw_tests(1);
     text_add(&whole, "%s", scenario);
     check(makes(&whole, &trace), "the scenario is not understood");
     comes_back("the scenario", &trace);

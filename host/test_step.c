@@ -139,9 +139,7 @@ int main(int argc, char **argv)
     transmit_flow();
     receive_flow();
     step_ecan();
-    step_tests();
     end();
-    draw_tests(1);
     for (uint64_t seed = 1; seed <= 4; seed++) {
         random_run(CAN_B, seed, 2000);
         random_run(ECAN, seed, 2000);

@@ -1052,15 +1052,6 @@ __attribute__((noinline)) static void feed_for_stack(void)
                             on_stack_room);
 }
 
-/* A part that sends in loop-back: three counts, and the outcome. */
-static uint8_t looping[6 + EVENT_BYTES];
-
-__attribute__((noinline)) static void loop_for_stack(void)
-{
-    frostsorrel_stream_feed(on_stack.image, BYTES, on_stack.state, STATE, looping, sizeof looping, on_stack_text,
-                            on_stack_room);
-}
-
 __attribute__((noinline)) static void open_for_stack(void)
 {
     frostsorrel_stream_open(on_stack.image, BYTES, on_stack.state, STATE, on_stack_text, sizeof on_stack_text);
@@ -1078,33 +1069,15 @@ static void expect_stack(const char *what, void (*function)(void), size_t too_mu
     check(taken < too_much, "%s takes %lu bytes of the stack", what, (unsigned long)taken);
 }
 
-/* Mailbox 0 is being sent, and mailbox 31 takes what it sends. */
-static void expect_loop_stack(const char *what, size_t room)
-{
-    open_for_stack();
-    put(on_stack.image, MODE, NORMAL_MODE);
-    put(on_stack.image, MC, 1u << 31 | 1);
-    put(on_stack.image, TRS, 1);
-    put(on_stack.image, SLOT, 0);
-    put(on_stack.image, TESTS, FROSTSORREL_LOOP_BACK);
-    on_stack_room = room;
-    expect_stack(what, loop_for_stack, 1700);
-}
-
 static void test_stack(void)
 {
     if (SANITIZED)
         return;
-    looping[4] = 1;
-    memcpy(looping + 6, outcome(SENT).bytes, EVENT_BYTES);
-    expect_loop_stack("sending in loop-back", sizeof on_stack_text);
-    check(word_of(on_stack.image, RMP) == 1u << 31, "what is sent in loop-back is not stored");
-    expect_loop_stack("sending in loop-back in a small room", 1);
     expect_stack("opening", open_for_stack, 200);
     on_stack_room = 20; /* too little: it is tried on copies */
-    expect_stack("feeding in a small room", feed_for_stack, 1700);
+    expect_stack("feeding in a small room", feed_for_stack, 1500);
     on_stack_room = sizeof on_stack_text;
-    expect_stack("feeding", feed_for_stack, 1700);
+    expect_stack("feeding", feed_for_stack, 1500);
     expect_stack("closing", close_for_stack, 200);
 }
 

@@ -62,11 +62,11 @@ void draw_trace(struct trace *t, const size_t *counts, draw_function *next)
         add_section(t, section, counts[section], image, next);
 }
 
-/* Often that of the other section, or the one that sets something too and has its place in the third alone. */
+/* Often that of the other section. */
 void misplace(struct trace *t, int section)
 {
-    static const uint8_t likely[] = {FROSTSORREL_WRITE_MAILBOX, FROSTSORREL_WRITE_REGISTER, FROSTSORREL_OPTIONS,
-                                     FROSTSORREL_TESTS};
+    static const uint8_t likely[] = {FROSTSORREL_WRITE_MAILBOX, FROSTSORREL_WRITE_REGISTER,
+                                     FROSTSORREL_OPTIONS};
     uint8_t *first = t->bytes + t->section[section] + 2;
     uint8_t *operation = first + EVENT_BYTES * draw((uint32_t)count_of(t, section));
 

@@ -43,9 +43,9 @@
 extern "C" {
 #endif
 
-#define FROSTSORREL_VERSION "0.8.0"
+#define FROSTSORREL_VERSION "0.7.0"
 #define FROSTSORREL_VERSION_MAJOR 0
-#define FROSTSORREL_VERSION_MINOR 8
+#define FROSTSORREL_VERSION_MINOR 7
 #define FROSTSORREL_VERSION_PATCH 0
 
 #define FROSTSORREL_IMAGE_BYTES 776
@@ -77,7 +77,7 @@ enum {
     FROSTSORREL_ASLEEP = 3,      /* not while the model sleeps */
     FROSTSORREL_NOT_ALLOWED = 4, /* an unused byte is not 0, or the value, DLC or profile is not allowed */
     FROSTSORREL_BUSY = 5,        /* something is being sent, or waits to be */
-    FROSTSORREL_LOCKED = 6,      /* this mode, test mode, profile, bus off or an enabled mailbox forbids it */
+    FROSTSORREL_LOCKED = 6,      /* not in this mode or profile, or not while the mailbox is enabled */
     FROSTSORREL_SLOT_EMPTY = 7,  /* an outcome, but nothing is being sent */
     FROSTSORREL_BAD_TRACE = 8,   /* the file is no trace, or the stream is over; no step answers it */
     FROSTSORREL_NO_ROOM = 9      /* what is to be written does not fit; no step answers it */
@@ -101,8 +101,7 @@ enum {
     FROSTSORREL_TICK = 7,
     FROSTSORREL_MODE = 8,
     FROSTSORREL_OPTIONS = 9,
-    FROSTSORREL_RESET = 10,
-    FROSTSORREL_TESTS = 11
+    FROSTSORREL_RESET = 10
 };
 
 /*
@@ -154,7 +153,6 @@ enum {
     FROSTSORREL_TEC = 20,
     FROSTSORREL_REC = 21,
     FROSTSORREL_GSR = 32,
-    FROSTSORREL_COUNTERS = 33,  /* TEC and REC, to be written in test error mode; they are read as 20 and 21 */
     FROSTSORREL_MASK_0 = 64,    /* the mask of mailbox n is FROSTSORREL_MASK_0 + n */
     FROSTSORREL_MASK_31 = 95,
     FROSTSORREL_PROTECTION = 96 /* a bit for each mailbox */
@@ -167,8 +165,7 @@ enum {
     FROSTSORREL_WORD_SLOT = 24,     /* the mailbox that is being sent, or FROSTSORREL_EMPTY_SLOT */
     FROSTSORREL_WORD_RECOVERY = 25, /* how often eleven recessive bits came in this bus off */
     FROSTSORREL_WORD_OPTIONS = 26,
-    FROSTSORREL_WORD_TSO = 27,
-    FROSTSORREL_WORD_TESTS = 28     /* the test modes that are on */
+    FROSTSORREL_WORD_TSO = 27
 };
 enum { FROSTSORREL_NO_MODE = 4, FROSTSORREL_EMPTY_SLOT = 32 };
 
@@ -224,25 +221,6 @@ enum {
     FROSTSORREL_WUBA = 2  /* a frame wakes the model */
 };
 
-/*
- * The test modes: the value of FROSTSORREL_TESTS, which sets both at once. It is taken in suspend alone, and lasts
- * through every mode until the next one or a reset; a fresh model has neither.
- *
- * In loop-back a sending that ends as FROSTSORREL_SENT is heard by the model itself, once TRS, TRR, TA, MBTIF, TEC,
- * the slot and the time stamp of its mailbox are written. IDE, identifier, RTR, DLC and the carried bytes are those
- * of the mailbox; it is filtered, stored and counted in REC as any frame is, and may overwrite one or be passed over.
- * The answer names the mailbox that has sent, and counts those that were compared. A remote frame is compared with
- * its own mailbox too: with RFH its TRS rises again, without it the search ends there. A mode that waits is taken
- * after all this. Other outcomes deliver nothing, and frames from the bus are heard as without loop-back.
- *
- * In test error mode a write of register 33 makes TEC and REC the same number, 0 to 255, and bits 1 and 0 of GIF
- * rise where passive or warning becomes true by it. 256 cannot be written, and in bus off neither counter can.
- */
-enum {
-    FROSTSORREL_LOOP_BACK = 1, /* the manual's TSTLB */
-    FROSTSORREL_TEST_ERROR = 2 /* and TSTERR */
-};
-
 /* The reasons of an explanation. A mailbox gets the first that holds of it. */
 enum {
     FROSTSORREL_DISABLED = 1,    /* the mailbox is not enabled in MC */
@@ -283,7 +261,7 @@ uint64_t frostsorrel_fresh(uint8_t *image, size_t image_len, uint32_t profile);
  * eight data bytes. Bytes that the operation does not use must be 0; in this table they are blank:
  *
  *    operation                   target      word    value
- *    0  register write           0 to 19, 33, 64-96  what is written
+ *    0  register write           0 to 19, 64 to 96   what is written
  *    1  mailbox write            0 to 31     0 to 3  what is written
  *    2  frame                    DLC 0 to 15         bit 31 IDE, 30 RTR, 28 to 0 identifier
  *    3  start of a sending
@@ -294,7 +272,6 @@ uint64_t frostsorrel_fresh(uint8_t *image, size_t image_len, uint32_t profile);
  *    8  mode                                         0 to 3
  *    9  options                                      bit 0 MTOS, bit 1 WUBA
  *   10  reset
- *   11  test modes                                   bit 0 loop-back, bit 1 test error
  *
  * The data bytes belong to data frames alone: the first DLC of them, or all eight if the DLC is above 8.
  *
@@ -306,29 +283,25 @@ uint64_t frostsorrel_fresh(uint8_t *image, size_t image_len, uint32_t profile);
  *      writes RML or RFP, which can only be read
  *   3  the model is asleep, and this is a register write, a mailbox write or options
  *   4  an unused byte is not 0; or a frame has a DLC above 15; or the value is not allowed, as one that
- *      breaks the layout of word 0 or 1 of a mailbox, a mask with bit 30 or 29, a counter above 255, or test
- *      modes above 3
+ *      breaks the layout of word 0 or 1 of a mailbox, or a mask with bit 30 or 29
  *   5  busy: a frame, start or receive error while a mailbox is in the slot; a write to that mailbox,
  *      or to one whose TRS is set and CDR is not; an MC write that turns off, or an MD write that
  *      turns round, a mailbox with TRS set
  *   6  locked: an MD write that turns round an enabled mailbox; BCR1 or BCR2 outside configuration;
  *      a mailbox write to word 0 of an enabled mailbox, or to words 2 and 3 if it receives, or sends
  *      with RFH set and CDR clear; a change of mode that neither leaves nor enters normal; leaving
- *      configuration with a BCR2 that cannot work; masks or protection in a CAN-B, LAM or GAM in an eCAN;
- *      test modes outside suspend, asleep too, also where they would stay what they are; register 33 in bus
- *      off, or without test error mode
+ *      configuration with a BCR2 that cannot work; masks or protection in a CAN-B, LAM or GAM in an eCAN
  *   7  an outcome while no mailbox is in the slot
  *
  * An accepted event leaves a good image again, the one that document 01 lays down (its sections
  * "Writing", "Receiving" and "Sending, errors, modes"; for outcome 3 request b) of document 02, for
- * a DLC above 8 its request c), for an eCAN its request g), for the test modes its request h);
- * docs/DECISIONS.md settles what they leave open), and the answer has refusal 0 and
+ * a DLC above 8 its request c), for an eCAN its request g); docs/DECISIONS.md settles what they leave open),
+ * and the answer has refusal 0 and
  *
  *   for a frame      the mailbox that stored it or is to reply to it, else 32; the count says how
  *                    many mailboxes were compared with it, those among them that it was passed over by
  *   for a start      the mailbox that went into the slot, else 32; count 0
- *   for an outcome   the mailbox that was in the slot; count 0, but for a frame sent in loop-back the
- *                    count of mailboxes that were compared with it
+ *   for an outcome   the mailbox that was in the slot; count 0
  *   for the rest     mailbox 32, count 0
  */
 uint64_t frostsorrel_step(uint8_t *image, size_t image_len, const uint8_t *event, size_t event_len);
@@ -337,7 +310,7 @@ uint64_t frostsorrel_step(uint8_t *image, size_t image_len, const uint8_t *event
  * Reads one register. No byte of the image is ever written. The first line that applies decides:
  *
  *   the image is not good (a length other than 776 included)    refusal 1, value 0
- *   number is not 0 to 21, 32 or 64 to 96; 33 is only written   refusal 2, value 0
+ *   number is neither 0 to 21 nor 32 nor 64 to 96               refusal 2, value 0
  *   number is 32, and the model is an eCAN                      refusal 2, value 0
  *   the model is asleep                                         GSR is 0x0001F040, any other is 0
  *   number is 0 to 21                                           that register word of the image
@@ -411,7 +384,7 @@ uint64_t frostsorrel_listing(const uint8_t *trace, size_t trace_len, uint8_t *te
  * Room that never gets a 9: 24 bytes for an opening, part_len + 31 for a feeding (no feeding needs more than
  * 39,016), 16 for a closing. With that room a feeding goes over the part once, and so it does with less where
  * the part has at most 65 bytes. A longer one it first tries on copies of image and state, to know how long its
- * text is. A feeding takes less than 1,700 bytes of the stack in any case, an opening or a closing less than
+ * text is. A feeding takes less than 1,500 bytes of the stack in any case, an opening or a closing less than
  * 200 (`make bench` prints what it saw).
  *
  * The state, should you want to look: four words, low byte first (frostsorrel_stream_word), and 16 bytes.
@@ -497,8 +470,7 @@ uint64_t frostsorrel_compare(const uint8_t *first, size_t first_len, const uint8
  * Outside normal mode and in bus off no mailbox is asked. There is one line then: mailbox 32, reason 6, and
  * in the place of the bit the mode, 1 to 3, or 4 in bus off; asleep with WUBA too, where a step wakes the
  * model. A mailbox in the slot does not matter: there is no refusal 5, and the frame is explained as if the
- * slot were empty. So what a mailbox sends in loop-back can be explained too, from the image before its
- * outcome, as a frame event with the same contents.
+ * slot were empty.
  *
  * The first of these that applies decides:
  *
@@ -637,7 +609,7 @@ static inline uint32_t frostsorrel_data_bytes(uint32_t word_1)
 }
 
 /*
- * Register word 0 to 31 as it stands in the image, words 22 to 28 too. This is not what the firmware
+ * Register word 0 to 31 as it stands in the image, words 22 to 27 too. This is not what the firmware
  * sees asleep, and there is no GSR here: frostsorrel_read has both.
  */
 static inline uint32_t frostsorrel_register_word(const uint8_t *image, uint32_t number)
@@ -752,8 +724,8 @@ static inline const char *frostsorrel_name_of(const char *const *names, size_t c
 }
 
 /*
- * A register, and the other words of the block: "MC" to "REC", "mode" to "TSO", "test modes", "word 29" on; "GSR" and
- * "COUNTERS"; from 64 on "MASK0" to "MASK31" and "PROTECTION".
+ * A register, and the other words of the block: "MC" to "REC", "mode" to "TSO", "word 28" on; "GSR"; from 64 on
+ * "MASK0" to "MASK31" and "PROTECTION".
  */
 static inline const char *frostsorrel_register_name(uint32_t number)
 {
@@ -765,8 +737,7 @@ static inline const char *frostsorrel_register_name(uint32_t number)
     static const char *const names[] = {
         "MC", "MD", "TRS", "TRR", "TA", "AA", "RMP", "RML", "LAM", "GAM", "RFP", "CDR", "MBTIF",
         "MBRIF", "MBIM", "GIF", "GIM", "BCR1", "BCR2", "TSC", "TEC", "REC", "mode", "waiting mode",
-        "slot", "recovery count", "options", "TSO", "test modes", "word 29", "word 30", "word 31", "GSR",
-        "COUNTERS"};
+        "slot", "recovery count", "options", "TSO", "word 28", "word 29", "word 30", "word 31", "GSR"};
 
     if (number >= FROSTSORREL_MASK_0)
         return frostsorrel_name_of(own, sizeof own / sizeof own[0], number - FROSTSORREL_MASK_0);
@@ -786,7 +757,7 @@ static inline const char *frostsorrel_operation_name(uint32_t operation)
 {
     static const char *const names[] = {
         "register write", "mailbox write", "frame", "start", "outcome", "receive error",
-        "eleven recessive bits", "tick", "mode", "options", "reset", "test modes"};
+        "eleven recessive bits", "tick", "mode", "options", "reset"};
 
     return frostsorrel_name_of(names, sizeof names / sizeof names[0], operation);
 }
@@ -836,11 +807,11 @@ static inline const char *frostsorrel_refusal_reason(uint32_t refusal)
     static const char *const names[] = {
         "the event was taken",
         "the image is not one that the rules allow",
-        "there is no such operation, register, mailbox, word or outcome, or it can only be read, or only be written",
+        "there is no such operation, register, mailbox, word or outcome, or it can only be read",
         "registers, mailboxes and options cannot be written while the model sleeps",
         "the value, the DLC or the profile is not allowed, or a byte that the event does not use is not 0",
         "a mailbox is being sent, or waits to be",
-        "this cannot be changed in this mode, test mode or profile, in bus off, or while the mailbox is enabled",
+        "this cannot be changed in this mode or profile, or while the mailbox is enabled",
         "an outcome came while nothing was being sent",
         "the file is not three sections of events that may stand there",
         "what is to be written does not fit the bytes that it is to stand in"};

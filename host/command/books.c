@@ -1,7 +1,5 @@
 #include "books.h"
 
-#include <string.h>
-
 static uint32_t word_of(const uint8_t *image, uint32_t number)
 {
     return frostsorrel_register_word(image, number);
@@ -85,23 +83,11 @@ static int hears(const uint8_t *image)
            word_of(image, FROSTSORREL_TEC) < FROSTSORREL_BUS_OFF_TEC;
 }
 
-static int is_ecan(const uint8_t *image)
-{
-    return frostsorrel_profile_word(image) == FROSTSORREL_ECAN;
-}
-
-static uint32_t mask_of(const uint8_t *before, uint32_t n)
-{
-    if (is_ecan(before))
-        return frostsorrel_mask_word(before, n);
-    return word_of(before, n == FROSTSORREL_MAILBOXES - 1 ? FROSTSORREL_LAM : FROSTSORREL_GAM);
-}
-
-/* Does mailbox n match this frame, under its mask? */
+/* Does mailbox n of an eCAN match this frame, under its own mask? */
 static int matches(const uint8_t *before, uint32_t n, uint32_t frame)
 {
     uint32_t word_0 = frostsorrel_mailbox_word(before, n, 0);
-    uint32_t freed = word_0 & FROSTSORREL_GAME ? mask_of(before, n) : 0;
+    uint32_t freed = word_0 & FROSTSORREL_GAME ? frostsorrel_mask_word(before, n) : 0;
     uint32_t identifier = frame & FROSTSORREL_IDE ? FROSTSORREL_IDENTIFIER_BITS : frostsorrel_standard(0x7FF);
 
     return ((word_0 ^ frame) & (FROSTSORREL_IDE | identifier) & ~freed) == 0;
@@ -119,20 +105,13 @@ static uint32_t matching(const uint8_t *before, uint32_t frame)
     return found;
 }
 
-/* Those of an eCAN that receive, are protected and hold a frame. */
-static uint32_t guarded(const struct books *b, const uint8_t *before)
-{
-    if (!is_ecan(before))
-        return 0;
-    return frostsorrel_protection_word(before) & b->held & word_of(before, FROSTSORREL_MD);
-}
-
-/* One mailbox matches, and every one that does passes the frame over. */
+/* One mailbox matches, and every one that does receives, is protected and holds a frame. */
 static int passed_over(const struct books *b, const uint8_t *before, uint32_t frame)
 {
+    uint32_t guarded = frostsorrel_protection_word(before) & b->held & word_of(before, FROSTSORREL_MD);
     uint32_t found = matching(before, frame);
 
-    return found && !(found & ~guarded(b, before));
+    return frostsorrel_profile_word(before) == FROSTSORREL_ECAN && found && !(found & ~guarded);
 }
 
 /* A frame that was compared was heard. */
@@ -143,67 +122,27 @@ static enum entry entry_of_untaken(const struct books *b, const uint8_t *before,
     return passed_over(b, before, frame) ? PASSED_OVER : NOT_TAKEN;
 }
 
-/* The mailbox that takes it: one that receives has stored it, one that sends is to reply. */
-static void book_taken(struct books *b, const uint8_t *before, uint32_t n)
-{
-    if (word_of(before, FROSTSORREL_MD) & BIT(n))
-        stored(b, (int)n);
-    else
-        raised(b, (int)n);
-}
-
-/* The answer names the mailbox. */
+/* The answer names the mailbox: one that receives has stored it, one that sends is to reply. */
 static void book_frame(struct books *b, const uint8_t *before, uint32_t frame, uint64_t answer)
 {
     uint32_t n = frostsorrel_answer_mailbox(answer);
 
     if (n == FROSTSORREL_NO_MAILBOX)
         enter(b, entry_of_untaken(b, before, frame, answer), (int)n, 0);
+    else if (word_of(before, FROSTSORREL_MD) & BIT(n))
+        stored(b, (int)n);
     else
-        book_taken(b, before, n);
+        raised(b, (int)n);
 }
 
-/* The mailbox at which the search for one ends, 32 if at none: the lowest that matches, in an eCAN the highest. */
-static uint32_t search_ends_at(const struct books *b, const uint8_t *before, uint32_t frame)
-{
-    uint32_t found = matching(before, frame) & ~guarded(b, before), turned = is_ecan(before) ? 31 : 0;
-
-    for (uint32_t k = 0; k < FROSTSORREL_MAILBOXES; k++)
-        if (found & BIT(k ^ turned))
-            return k ^ turned;
-    return FROSTSORREL_NO_MAILBOX;
-}
-
-/* Does this mailbox take a frame whose search ends there? One that sends and does not reply does not. */
-static int takes(const uint8_t *before, uint32_t n)
-{
-    return n != FROSTSORREL_NO_MAILBOX && (word_of(before, FROSTSORREL_MD) & BIT(n) ||
-                                           frostsorrel_mailbox_word(before, n, 0) & FROSTSORREL_RFH);
-}
-
-/* In loop-back the answer names the sender, and the mailbox is searched for. The frame is always heard. */
-static void book_looped(struct books *b, const uint8_t *before, uint32_t frame)
-{
-    uint32_t n = search_ends_at(b, before, frame);
-
-    if (takes(before, n))
-        book_taken(b, before, n);
-    else
-        enter(b, passed_over(b, before, frame) ? PASSED_OVER : NOT_TAKEN, FROSTSORREL_NO_MAILBOX, 0);
-}
-
-/* The sending first, so that its own remote frame may raise a request where one has just ended. */
-static void book_outcome(struct books *b, const uint8_t *before, const uint8_t *event)
+static void book_outcome(struct books *b, const uint8_t *before, int how)
 {
     int n = (int)word_of(before, FROSTSORREL_WORD_SLOT);
-    uint8_t frame[FROSTSORREL_EVENT_BYTES];
 
-    if (event[1] == FROSTSORREL_SENT)
+    if (how == FROSTSORREL_SENT)
         request_ends(b, n, SENDINGS);
     else if (word_of(before, FROSTSORREL_TRR) & BIT(n))
         request_ends(b, n, ABORTED);
-    if (brings_frame(frame, before, event))
-        book_looped(b, before, frostsorrel_event_value(frame));
 }
 
 static void book_reset(struct books *b)
@@ -248,7 +187,7 @@ void book(struct books *b, const uint8_t *before, const uint8_t *event, uint64_t
         book_frame(b, before, frostsorrel_event_value(event), answer);
         break;
     case FROSTSORREL_OUTCOME:
-        book_outcome(b, before, event);
+        book_outcome(b, before, event[1]);
         break;
     case FROSTSORREL_RESET:
         book_reset(b);
@@ -256,34 +195,6 @@ void book(struct books *b, const uint8_t *before, const uint8_t *event, uint64_t
     }
     if (enters_sleep(before, event))
         all_requests_end(b, SLEPT); /* after the outcome: also what has just lost (D43) */
-}
-
-/* ---- frames that a step brings */
-
-/* What mailbox n sends. */
-static void put_frame_of(uint8_t *frame, const uint8_t *image, uint32_t n)
-{
-    uint32_t word_1 = frostsorrel_mailbox_word(image, n, 1);
-    uint32_t identifier = frostsorrel_mailbox_word(image, n, 0) & (FROSTSORREL_IDE | FROSTSORREL_IDENTIFIER_BITS);
-    uint8_t dlc = word_1 & FROSTSORREL_DLC_BITS;
-
-    if (word_1 & FROSTSORREL_RTR)
-        frostsorrel_remote_frame(frame, identifier, dlc);
-    else
-        frostsorrel_data_frame(frame, identifier, dlc, image + 16 * n + 8);
-}
-
-int brings_frame(uint8_t *frame, const uint8_t *before, const uint8_t *event)
-{
-    uint32_t slot = word_of(before, FROSTSORREL_WORD_SLOT);
-    int is_looped = event[0] == FROSTSORREL_OUTCOME && event[1] == FROSTSORREL_SENT && slot != FROSTSORREL_EMPTY_SLOT &&
-                    word_of(before, FROSTSORREL_WORD_TESTS) & FROSTSORREL_LOOP_BACK;
-
-    if (event[0] == FROSTSORREL_FRAME)
-        memcpy(frame, event, FROSTSORREL_EVENT_BYTES);
-    if (is_looped)
-        put_frame_of(frame, before, slot);
-    return event[0] == FROSTSORREL_FRAME || is_looped;
 }
 
 /* ---- what must hold after every step */

@@ -2,14 +2,11 @@
  * The books of every mailbox (document 01, "The books of one mailbox").
  *
  * What a step did is worked out from the event, the answer and the image before it: its MD, slot, TRR, mode,
- * waiting mode, TEC, recovery count and test modes, and what a search goes by: MC, masks, protection and word 0 of
+ * waiting mode, TEC and recovery count, and of an eCAN what its search goes by: MC, masks, protection and word 0 of
  * the mailboxes. RMP, TRS and RML are never looked at for that: the books say what they should be.
  *
- * A sending in loop-back brings a frame too, and has the entries of both: the answer names the sender, so that the
- * books search for who got the frame (document 02, h).
- *
- * Beside them stand the frames that came to no mailbox, so that every frame that an accepted step brings has an entry
- * or a request that waits already. Those that were passed over are counted apart, once for the run (document 02, g).
+ * Beside them stand the frames that came to no mailbox, so that every accepted frame has an entry or a request that
+ * waits already. Those that were passed over are counted apart, once for the run (document 02, g).
  */
 #ifndef BOOKS_H
 #define BOOKS_H
@@ -42,12 +39,6 @@ struct books {
     struct made made[MOST_MADE];
     int mades;
 };
-
-/*
- * Does this event, if it is accepted, bring the model a frame: from the bus, or by a sending in loop-back? Then the frame
- * is put here as an event that brings it from the bus.
- */
-int brings_frame(uint8_t *frame, const uint8_t *before, const uint8_t *event);
 
 /* Books the next step. */
 void book(struct books *b, const uint8_t *before, const uint8_t *event, uint64_t answer);

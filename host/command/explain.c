@@ -1,4 +1,4 @@
-/* frostsorrel explain TRACE STEP: why the frame of a step, from the bus or in loop-back, landed where it did. */
+/* frostsorrel explain TRACE STEP: why the frame of a step landed where it did. */
 #include <stdlib.h>
 
 #include "report.h"
@@ -7,9 +7,9 @@
 static const char help[] =
     "frostsorrel explain TRACE STEP\n"
     "\n"
-    "Runs a trace and says of a step that is a frame, or that sends one in loop-back, mailbox by mailbox, why the frame\n"
-    "did not land there: in the order of the search, up to the mailbox where it ended, or of all 32. Steps are numbered\n"
-    "as in the report. - is standard input.\n"
+    "Runs a trace and says of a step that is a frame, mailbox by mailbox, why the frame did not land there: in the\n"
+    "order of the search, up to the mailbox where it ended, or of all 32. Steps are numbered as in the report. - is\n"
+    "standard input.\n"
     "\n"
     "The first line names the file, the step, the frame and the answer. A line for each mailbox follows, behind two\n"
     "blanks: the first of these that holds, then the mailbox's identifier, and what of it decided:\n"
@@ -34,8 +34,8 @@ static const char help[] =
     "explained as if none were, and the first line says that nothing of it happened.\n"
     "\n"
     "The exit status is 0, wherever the frame landed; 1 where the trace is malformed, with the reason, or where a check\n"
-    "of the run finds a difference, which the report tells; 2 where it cannot be read, has no such step, or the step\n"
-    "brings no frame, or one that is not allowed.\n";
+    "of the run finds a difference, which the report tells; 2 where it cannot be read, has no such step, or the step is\n"
+    "no frame, or one that is not allowed.\n";
 
 /* The reason, and in one column what is said beside it: only that of a match of which nothing comes is longer. */
 static void write_line(struct text *out, const struct run *r, int step, const struct explanation *e, size_t line)
@@ -44,7 +44,7 @@ static void write_line(struct text *out, const struct run *r, int step, const st
     struct text words = {0}, detail = {0};
 
     say_line(&words, before, r->step[step].answer, e->list, line);
-    say_line_detail(&detail, before, e->frame, e->list, line);
+    say_line_detail(&detail, before, r->step[step].event, e->list, line);
     if (detail.length)
         text_add(out, "  %-48s  %s\n", words.at, detail.at);
     else

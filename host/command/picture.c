@@ -20,7 +20,6 @@ enum {
     STRIP_HEIGHT = 24, /* the mode */
     LETTER = 7,        /* of the mode's name */
     LANE_HEIGHT = 34,
-    ABOVE = 8,         /* from one mark of a step to the next in the same lane */
     COUNTER_HEIGHT = 84,
     GAP = 12,
     MOST_IN_BAND = 120
@@ -229,10 +228,7 @@ static void draw_bars(struct band *b, int n, uint32_t number, const char *class,
     }
 }
 
-/*
- * What goes into the slot and what comes back from it books nothing, and is drawn all the same. What was sent does not come
- * back, though its TRS may be up again: its own remote frame, in loop-back, asks for it anew.
- */
+/* What goes into the slot and what comes back from it books nothing, and is drawn all the same. */
 static void draw_slot_marks(struct band *b, int n, double y)
 {
     for (int k = b->first; k <= b->last; k++) {
@@ -242,27 +238,22 @@ static void draw_slot_marks(struct band *b, int n, double y)
             continue; /* a refused step names none */
         if (s->event[0] == FROSTSORREL_START)
             draw_mark(b, START, k, y);
-        if (s->event[0] == FROSTSORREL_OUTCOME && s->event[1] != FROSTSORREL_SENT && is_up(b, FROSTSORREL_TRS, k, n))
+        if (s->event[0] == FROSTSORREL_OUTCOME && is_up(b, FROSTSORREL_TRS, k, n))
             draw_mark(b, BACK, k, y);
     }
 }
 
-/*
- * A store that loses a frame has two entries: the loss is the one to show. Other entries of one step, as where a mailbox is
- * sent and asked again, stand one above the other.
- */
+/* A store that loses a frame has two entries: the loss is the one to show. */
 static void draw_entries(struct band *b, int n, double y)
 {
-    int last = b->run->step[b->last + 1].first_made, step = b->first, drawn_in = 0, above = 0;
+    int last = b->run->step[b->last + 1].first_made, step = b->first;
 
     for (int i = b->run->step[b->first].first_made; i < last; i++) {
         while (b->run->step[step + 1].first_made <= i)
             step++;
         if (b->run->made[i].mailbox != n)
             continue;
-        above = step == drawn_in ? above + ABOVE : 0;
-        drawn_in = step;
-        draw_mark(b, mark_of(b->run->made[i].entry), step, y - above);
+        draw_mark(b, mark_of(b->run->made[i].entry), step, y);
         if (b->run->made[i].entry == OVERWRITTEN)
             i++;
     }

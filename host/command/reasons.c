@@ -18,13 +18,12 @@ static int has(const uint8_t *image, uint32_t number, uint32_t mailbox)
 
 static int is_only_read(uint32_t number)
 {
-    return number == FROSTSORREL_RML || number == FROSTSORREL_RFP || number == FROSTSORREL_TEC ||
-           number == FROSTSORREL_REC || number == FROSTSORREL_GSR;
+    return number == FROSTSORREL_RML || number == FROSTSORREL_RFP || number > FROSTSORREL_TSC;
 }
 
 static void say_unknown(struct text *t, const uint8_t *event)
 {
-    if (event[0] > FROSTSORREL_TESTS)
+    if (event[0] > FROSTSORREL_RESET)
         text_add(t, "there is no operation %d", event[0]);
     else if (event[0] == FROSTSORREL_OUTCOME)
         text_add(t, "there is no outcome %d", event[1]);
@@ -32,9 +31,9 @@ static void say_unknown(struct text *t, const uint8_t *event)
         text_add(t, "there is no register %d", event[1]);
     else if (event[0] == FROSTSORREL_WRITE_REGISTER && is_only_read(event[1]))
         text_add(t, "%s can only be read", frostsorrel_register_name(event[1]));
-    else if (event[0] == FROSTSORREL_WRITE_MAILBOX && event[1] >= FROSTSORREL_MAILBOXES)
+    else if (event[1] >= FROSTSORREL_MAILBOXES)
         text_add(t, "there is no mailbox %d", event[1]);
-    else if (event[0] == FROSTSORREL_WRITE_MAILBOX && event[2] > 3)
+    else if (event[2] > 3)
         text_add(t, "a mailbox has no word %d", event[2]);
 }
 
@@ -63,8 +62,6 @@ static const char *bad_register(uint32_t number, uint32_t value)
         return value > 1023 ? "the value must not be above 1023" : 0;
     case FROSTSORREL_TSC:
         return value ? "TSC takes nothing but 0" : 0;
-    case FROSTSORREL_COUNTERS:
-        return value > 0xFF ? "TEC and REC take 255 at most: bus off cannot be written" : 0;
     default:
         return 0;
     }
@@ -108,8 +105,6 @@ static const char *bad_value(const uint8_t *event)
         return value > FROSTSORREL_SUSPEND ? "the modes are 0 to 3" : 0;
     case FROSTSORREL_OPTIONS:
         return value > 3 ? "the options are 0 to 3" : 0;
-    case FROSTSORREL_TESTS:
-        return value > 3 ? "the test modes are 0 to 3" : 0;
     default:
         return 0;
     }
@@ -126,7 +121,7 @@ static int uses(const uint8_t *event, int byte)
         return operation == FROSTSORREL_WRITE_MAILBOX;
     if (byte >= 4 && byte < 8)
         return operation <= FROSTSORREL_FRAME || operation == FROSTSORREL_RECEIVE_ERROR ||
-               operation == FROSTSORREL_MODE || operation == FROSTSORREL_OPTIONS || operation == FROSTSORREL_TESTS;
+               operation == FROSTSORREL_MODE || operation == FROSTSORREL_OPTIONS;
     return byte >= 8 && operation == FROSTSORREL_FRAME && byte - 8 < frame_bytes(event);
 }
 
@@ -194,23 +189,13 @@ static int is_foreign(const uint8_t *before, uint32_t number)
     return number >= FROSTSORREL_MASK_0;
 }
 
-static void say_locked_counters(struct text *t, const uint8_t *before)
-{
-    if (word_of(before, FROSTSORREL_TEC) == FROSTSORREL_BUS_OFF_TEC)
-        text_add(t, "nothing writes TEC and REC in bus off: 128 times eleven recessive bits end it, or a reset");
-    else if (!(word_of(before, FROSTSORREL_WORD_TESTS) & FROSTSORREL_TEST_ERROR))
-        text_add(t, "TEC and REC can be written in test error mode only");
-}
-
 static void say_locked_write(struct text *t, const uint8_t *before, const uint8_t *event)
 {
     uint32_t turned = frostsorrel_event_value(event) ^ word_of(before, FROSTSORREL_MD);
 
     if (!is_ecan(before))
         turned &= ~BIT(31); /* which stays 1, whatever is written */
-    if (event[1] == FROSTSORREL_COUNTERS)
-        say_locked_counters(t, before);
-    else if (is_foreign(before, event[1]))
+    if (is_foreign(before, event[1]))
         text_add(t, is_ecan(before) ? "%s is the CAN-B's, and this is an eCAN" : "%s is the eCAN's, and this is a CAN-B",
                  frostsorrel_register_name(event[1]));
     else if (event[1] == FROSTSORREL_MD)
@@ -229,12 +214,6 @@ static void say_locked_mailbox(struct text *t, const uint8_t *before, const uint
         text_add(t, "mailbox %d is enabled (MC) and receives, so its data is not the firmware's to write", event[1]);
     else if (frostsorrel_mailbox_word(before, event[1], 0) & FROSTSORREL_RFH && !has(before, FROSTSORREL_CDR, event[1]))
         text_add(t, "mailbox %d is enabled (MC) and replies by itself (RFH): CDR must be set first", event[1]);
-}
-
-static void say_locked_tests(struct text *t, const uint8_t *before)
-{
-    if (word_of(before, FROSTSORREL_WORD_MODE) != FROSTSORREL_SUSPEND)
-        text_add(t, "test modes are switched in suspend only, and the unit is in %s", state_of(before));
 }
 
 static void say_locked_mode(struct text *t, const uint8_t *before, const uint8_t *event)
@@ -264,8 +243,6 @@ void say_reason(struct text *t, const uint8_t *before, const uint8_t *event, uin
         say_locked_write(t, before, event);
     else if (refusal == FROSTSORREL_LOCKED && event[0] == FROSTSORREL_WRITE_MAILBOX)
         say_locked_mailbox(t, before, event);
-    else if (refusal == FROSTSORREL_LOCKED && event[0] == FROSTSORREL_TESTS)
-        say_locked_tests(t, before);
     else if (refusal == FROSTSORREL_LOCKED)
         say_locked_mode(t, before, event);
     if (t->length == length)

@@ -9,8 +9,7 @@ static const char help[] =
     "\n"
     "Makes a fresh model and prints every register that can be read: its number, its name and its value. Without a word\n"
     "it is a CAN-B, as every trace has it; ecan makes the other maker's controller, which has no GSR. MASK0 to MASK31 and\n"
-    "PROTECTION can be read in both and written in an eCAN alone; with LAM and GAM it is the other way round. COUNTERS, 33,\n"
-    "is not among them: it can only be written, and what it writes is read as TEC and REC.\n";
+    "PROTECTION can be read in both and written in an eCAN alone; with LAM and GAM it is the other way round.\n";
 
 /* Adds one line. Answers whether the read was accepted. */
 static int add_register(struct text *t, const uint8_t *image, uint32_t number)

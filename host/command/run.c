@@ -33,13 +33,11 @@ static int is_named(const uint8_t *before, uint32_t n)
 
 /*
  * How a frame has to be answered, going by its explanation: the lines with reasons 3, 4, 5 and 7 are the mailboxes that
- * were compared, and the one that matched is named; in loop-back the one that sent it. A frame that is not heard has no
- * such line.
+ * were compared, and the one that matched is named. A frame that is not heard has no such line.
  */
-static uint64_t explained_answer(const uint8_t *before, const uint8_t *event, const struct explanation *e)
+static uint64_t explained_answer(const uint8_t *before, const struct explanation *e)
 {
-    int is_looped = event[0] == FROSTSORREL_OUTCOME;
-    uint32_t named = is_looped ? frostsorrel_register_word(before, FROSTSORREL_WORD_SLOT) : FROSTSORREL_NO_MAILBOX;
+    uint32_t named = FROSTSORREL_NO_MAILBOX;
     uint64_t compared = 0;
 
     for (size_t i = 0; i < e->count; i++) {
@@ -47,7 +45,7 @@ static uint64_t explained_answer(const uint8_t *before, const uint8_t *event, co
 
         compared += (reason >= FROSTSORREL_IDE_DIFFERS && reason <= FROSTSORREL_MATCHED) ||
                     reason == FROSTSORREL_PROTECTED;
-        if (!is_looped && reason == FROSTSORREL_MATCHED && is_named(before, n))
+        if (reason == FROSTSORREL_MATCHED && is_named(before, n))
             named = n;
     }
     return 256 * named + 65536 * compared;
@@ -58,10 +56,10 @@ static void check_explanation(struct run *r, int step)
     uint64_t answer = r->step[step].answer, explained;
     struct explanation e;
 
-    if (!brings_frame(e.frame, r->image[step - 1], r->step[step].event) || refusal_of(r, step) != FROSTSORREL_ACCEPTED)
+    if (r->step[step].event[0] != FROSTSORREL_FRAME || refusal_of(r, step) != FROSTSORREL_ACCEPTED)
         return;
     explain_step(r, step, &e);
-    explained = explained_answer(r->image[step - 1], r->step[step].event, &e);
+    explained = explained_answer(r->image[step - 1], &e);
     if (explained != answer)
         text_add(&r->fault, "step %d: mailbox %lu, %lu compared, and its explanation says mailbox %lu, %lu compared\n",
                  step, wide(frostsorrel_answer_mailbox(answer)), (unsigned long)frostsorrel_answer_count(answer),
@@ -171,33 +169,20 @@ void changes_between(const struct run *r, int from, int to, struct changes *into
 }
 
 /* What is no frame cannot be explained, nor a frame that the step refuses for its own bytes. */
-static uint32_t refusal_to_explain(const struct run *r, int step, const uint8_t *frame)
+static uint32_t refusal_to_explain(const struct run *r, int step)
 {
-    if (frame[0] != FROSTSORREL_FRAME)
+    if (r->step[step].event[0] != FROSTSORREL_FRAME)
         return FROSTSORREL_UNKNOWN;
     return refusal_of(r, step) == FROSTSORREL_NOT_ALLOWED ? FROSTSORREL_NOT_ALLOWED : FROSTSORREL_ACCEPTED;
 }
 
-/* The frame that the step brings, or its event where it brings none: an outcome that was refused has sent nothing. */
-static void find_frame(const struct run *r, int step, uint8_t *frame)
-{
-    const uint8_t *event = r->step[step].event;
-
-    if (event[0] != FROSTSORREL_OUTCOME || refusal_of(r, step) != FROSTSORREL_ACCEPTED ||
-        !brings_frame(frame, r->image[step - 1], event))
-        memcpy(frame, event, FROSTSORREL_EVENT_BYTES);
-}
-
 void explain_step(const struct run *r, int step, struct explanation *into)
 {
-    uint64_t answer;
-    uint32_t refusal;
+    uint64_t answer = frostsorrel_explain(r->image[step - 1], FROSTSORREL_IMAGE_BYTES, r->step[step].event,
+                                          FROSTSORREL_EVENT_BYTES, into->list, sizeof into->list);
+    uint32_t refusal = frostsorrel_answer_refusal(answer);
 
-    find_frame(r, step, into->frame);
-    answer = frostsorrel_explain(r->image[step - 1], FROSTSORREL_IMAGE_BYTES, into->frame, FROSTSORREL_EVENT_BYTES,
-                                 into->list, sizeof into->list);
-    refusal = frostsorrel_answer_refusal(answer);
-    if (refusal != refusal_to_explain(r, step, into->frame)) {
+    if (refusal != refusal_to_explain(r, step)) {
         complain("a fault: the library is asked to explain step %d, and answers %lu, %s", step, wide(refusal),
                  frostsorrel_refusal_reason(refusal));
         exit(COMMAND_DIFFERS); /* nothing is written yet, here too */

@@ -24,8 +24,8 @@ struct run {
 /*
  * Reads a trace and runs it. Answers COMMAND_DONE, also for a malformed one, whose trace.fault is set and which has
  * no steps; or COMMAND_FAILED after a message, with nothing to free. After every step the books must balance and RMP,
- * RML and TRS must say the same; the answers must be those of frostsorrel_listing, and of a frame that was taken, or sent
- * in loop-back, those that frostsorrel_explain gives reasons for. What does not hold is a fault.
+ * RML and TRS must say the same; the answers must be those of frostsorrel_listing, and of a frame that was taken those
+ * that frostsorrel_explain gives reasons for. What does not hold is a fault.
  */
 int run_trace(const char *path, struct run *into);
 
@@ -51,16 +51,14 @@ void changes_between(const struct run *r, int from, int to, struct changes *into
 
 /* Why a frame lands where it does, as frostsorrel_explain lists it. */
 struct explanation {
-    uint32_t refusal; /* 2 where the event brings no frame, 4 where it is one that is not allowed; else 0, and lines */
-    uint8_t frame[FROSTSORREL_EVENT_BYTES]; /* as an event that brings it from the bus */
+    uint32_t refusal; /* 2 where the event is no frame, 4 where it is a frame that is not allowed; else 0, and lines */
     size_t count;
     uint8_t list[FROSTSORREL_EXPLANATION_BYTES];
 };
 
 /*
- * Explains the frame that this step brings, from the bus or in loop-back, by the image before it. Where the library
- * refuses what it has no reason to, or takes what it should refuse, that is said, and the program ends with
- * COMMAND_DIFFERS.
+ * Explains the event of this step, from the image before it. Where the library refuses what it has no reason to, or
+ * takes what it should refuse, that is said, and the program ends with COMMAND_DIFFERS.
  */
 void explain_step(const struct run *r, int step, struct explanation *into);
 

@@ -538,22 +538,6 @@ static void read_outcome(struct reader *r)
     unexpected(r);
 }
 
-static void read_tests(struct reader *r)
-{
-    for (uint32_t value = 0; value < TEST_VALUES; value++)
-        if (takes(r, tests_words[value])) {
-            add_plain(r, FROSTSORREL_TESTS, 0, value);
-            return;
-        }
-    unexpected(r);
-}
-
-/* What is above gets its refusal by a write of the register. */
-static void read_counters(struct reader *r)
-{
-    add_write(r, FROSTSORREL_COUNTERS, take_value(r, "a number for TEC and REC, 0 to 255", HIGHEST_COUNT));
-}
-
 static void read_receive(struct reader *r)
 {
     needs(r, "error");
@@ -599,7 +583,6 @@ static const struct form forms[] = {
     {"send", read_bits, IN_REGISTERS | IN_EVENTS, FROSTSORREL_TRS},
     {"abort", read_bits, IN_REGISTERS | IN_EVENTS, FROSTSORREL_TRR},
     {"release", read_bits, IN_REGISTERS | IN_EVENTS, FROSTSORREL_RMP},
-    {"counters", read_counters, IN_REGISTERS | IN_EVENTS, 0},
     {"frame", read_frame, IN_EVENTS, 0},
     {"remote", read_remote, IN_EVENTS, 0},
     {"start", read_plain, IN_EVENTS, FROSTSORREL_START},
@@ -608,7 +591,6 @@ static const struct form forms[] = {
     {"recessive", read_plain, IN_EVENTS, FROSTSORREL_ELEVEN_RECESSIVE},
     {"tick", read_plain, IN_EVENTS, FROSTSORREL_TICK},
     {"mode", read_mode, IN_EVENTS, 0},
-    {"tests", read_tests, IN_EVENTS, 0},
     {"reset", read_plain, IN_EVENTS, FROSTSORREL_RESET},
     {"raw", read_raw, IN_MAILBOXES | IN_REGISTERS | IN_EVENTS, 0},
 };

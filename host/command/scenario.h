@@ -9,9 +9,6 @@
 enum { OUTCOMES = FROSTSORREL_UNACKNOWLEDGED + 1 };
 extern const char *const outcome_words[OUTCOMES];
 
-/* The highest number that the counters can be written with. */
-enum { HIGHEST_COUNT = 255 };
-
 /* Makes a trace of a scenario. The trace is for nothing where the lines have faults. */
 void make_trace(struct lines *scenario, struct text *trace);
 

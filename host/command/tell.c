@@ -339,12 +339,12 @@ void tell_mailboxes(struct pen *p, const struct run *r)
 static void tell_loss(struct pen *p, const struct run *r, int step, const struct made *m)
 {
     const struct step *s = &r->step[step];
-    int was_stored = m->mailbox != FROSTSORREL_NO_MAILBOX, came = was_stored ? m->since : step;
+    int was_stored = m->mailbox != FROSTSORREL_NO_MAILBOX;
     struct text t = {0};
 
     say_made(&t, m, r->image[step - 1], s->event);
     text_add(&t, was_stored ? " in step %d: " : ", step %d: ", step);
-    say_brought(&t, r->image[came - 1], r->step[came].event);
+    say_event(&t, r->step[was_stored ? m->since : step].event);
     p->line(p, kind_of(m->entry), t.at);
     text_free(&t);
 }
@@ -413,19 +413,6 @@ static void tell_sleep(struct pen *p, const uint8_t *image)
     put_line(p, &t);
 }
 
-/* Nothing where both are off, as they are on every unit that is in use. */
-static void tell_tests(struct pen *p, const uint8_t *image)
-{
-    uint32_t tests = frostsorrel_register_word(image, FROSTSORREL_WORD_TESTS);
-    struct text t = {0};
-
-    if (!tests)
-        return;
-    text_add(&t, "test modes:");
-    say_tests(&t, "", tests);
-    put_line(p, &t);
-}
-
 void tell_state(struct pen *p, const struct run *r)
 {
     const uint8_t *image = r->image[r->steps];
@@ -441,7 +428,6 @@ void tell_state(struct pen *p, const struct run *r)
     put_line(p, &t);
     if (frostsorrel_register_word(image, FROSTSORREL_WORD_MODE) == FROSTSORREL_SLEEP)
         tell_sleep(p, image);
-    tell_tests(p, image);
     text_add(&t, "slot:");
     say_slot(&t, slot);
     put_line(p, &t);

@@ -34,7 +34,7 @@ static void closest(uint8_t *into, const uint8_t *event)
         frostsorrel_outcome(into, target % OUTCOMES);
     else if (operation == FROSTSORREL_RECEIVE_ERROR)
         frostsorrel_event(into, operation, 0, 0, value == 1 ? 1 : 8);
-    else if (operation == FROSTSORREL_MODE || operation == FROSTSORREL_OPTIONS || operation == FROSTSORREL_TESTS)
+    else if (operation == FROSTSORREL_MODE || operation == FROSTSORREL_OPTIONS)
         frostsorrel_event(into, operation, 0, 0, value % 4);
     else
         frostsorrel_event(into, operation <= FROSTSORREL_RESET ? operation : FROSTSORREL_RESET, 0, 0, 0);
@@ -56,8 +56,6 @@ static void write_register(struct text *t, uint8_t number, uint32_t value)
         write_mailboxes(t, "abort", value);
     else if (number == FROSTSORREL_RMP && value)
         write_mailboxes(t, "release", value);
-    else if (number == FROSTSORREL_COUNTERS && value <= HIGHEST_COUNT)
-        text_add(t, "counters %lu", wide(value));
     else
         text_add(t, "write %s = 0x%lX", frostsorrel_register_name(number), wide(value));
 }
@@ -93,7 +91,6 @@ static void write_known(struct text *t, const uint8_t *event)
     case FROSTSORREL_MODE: text_add(t, "mode %s", frostsorrel_mode_name(value)); break;
     case FROSTSORREL_OPTIONS: text_add(t, "options %lu", wide(value)); break;
     case FROSTSORREL_RESET: text_add(t, "reset"); break;
-    case FROSTSORREL_TESTS: text_add(t, "tests %s", tests_words[value]); break;
     }
 }
 

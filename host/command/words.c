@@ -63,18 +63,6 @@ static void say_options(struct text *t, const char *sign, uint32_t value)
         text_add(t, " %sWUBA", sign);
 }
 
-const char *const tests_words[TEST_VALUES] = {"none", "loop-back", "error", "both"};
-
-void say_tests(struct text *t, const char *sign, uint32_t value)
-{
-    const char *between = *sign || !(value & FROSTSORREL_LOOP_BACK) ? "" : ",";
-
-    if (value & FROSTSORREL_LOOP_BACK)
-        text_add(t, " %sloop-back", sign);
-    if (value & FROSTSORREL_TEST_ERROR)
-        text_add(t, "%s %stest error", between, sign);
-}
-
 void say_identifier(struct text *t, uint32_t word_0)
 {
     if (word_0 & FROSTSORREL_IDE)
@@ -101,7 +89,7 @@ void say_bytes(struct text *t, const uint8_t *bytes, int count)
 
 int is_register(uint32_t number)
 {
-    return number <= FROSTSORREL_REC || number == FROSTSORREL_GSR || number == FROSTSORREL_COUNTERS ||
+    return number <= FROSTSORREL_REC || number == FROSTSORREL_GSR ||
            (number >= FROSTSORREL_MASK_0 && number <= FROSTSORREL_PROTECTION);
 }
 
@@ -140,8 +128,6 @@ static void say_register_write(struct text *t, const uint8_t *event)
         say_interrupts(t, "", value);
     } else if (number == FROSTSORREL_BCR2) {
         text_add(t, ": SJW %lu, TSEG2 %lu, TSEG1 %lu", wide(value >> 8 & 3), wide(value >> 4 & 7), wide(value & 15));
-    } else if (number == FROSTSORREL_COUNTERS) {
-        text_add(t, ": TEC and REC %lu", wide(value));
     }
 }
 
@@ -238,12 +224,6 @@ void say_event(struct text *t, const uint8_t *event)
                  frostsorrel_event_value(event) & 3 ? ":" : "");
         say_options(t, "", frostsorrel_event_value(event));
         break;
-    case FROSTSORREL_TESTS:
-        if (frostsorrel_event_value(event) < TEST_VALUES)
-            text_add(t, "tests %s", tests_words[frostsorrel_event_value(event)]);
-        else
-            text_add(t, "tests %lu", wide(frostsorrel_event_value(event)));
-        break;
     case FROSTSORREL_START:
     case FROSTSORREL_ELEVEN_RECESSIVE:
     case FROSTSORREL_TICK:
@@ -253,14 +233,6 @@ void say_event(struct text *t, const uint8_t *event)
     default:
         text_add(t, "operation %d", event[0]);
     }
-}
-
-void say_brought(struct text *t, const uint8_t *before, const uint8_t *event)
-{
-    uint8_t frame[FROSTSORREL_EVENT_BYTES];
-
-    if (brings_frame(frame, before, event))
-        say_event(t, frame);
 }
 
 /* ---- answers and entries */
@@ -300,20 +272,11 @@ static void say_kept_tec(struct text *t, const uint8_t *before, const uint8_t *e
         text_add(t, ", REC %lu", wide(frostsorrel_register_word(before, FROSTSORREL_REC)));
 }
 
-/* Of a sending in loop-back: what it brought. The event does not show it. */
-static void say_looped(struct text *t, const uint8_t *before, const uint8_t *event)
-{
-    text_add(t, ", looped back: ");
-    say_brought(t, before, event);
-}
-
 /* An answer is told as it is. Where it names no mailbox the state may say why. */
 void say_answer(struct text *t, const uint8_t *before, const uint8_t *event, uint64_t answer)
 {
     uint32_t n = frostsorrel_answer_mailbox(answer);
-    uint8_t frame[FROSTSORREL_EVENT_BYTES];
     int is_named = n != FROSTSORREL_NO_MAILBOX, is_frame = event[0] == FROSTSORREL_FRAME;
-    int brings = brings_frame(frame, before, event);
 
     if (is_named)
         text_add(t, "mailbox %lu", wide(n));
@@ -321,18 +284,16 @@ void say_answer(struct text *t, const uint8_t *before, const uint8_t *event, uin
         text_add(t, "no mailbox");
     else
         say_idle(t, state_of(before), event[0]);
-    if (brings && !is_frame)
-        say_looped(t, before, event);
-    if (brings)
+    if (is_frame)
         text_add(t, ", %lu compared", (unsigned long)frostsorrel_answer_count(answer));
     say_kept_tec(t, before, event);
 }
 
 /* The mailbox at which the search for one ended, 32 if it ended at none: the last line of the explanation says it. */
-static uint32_t search_ended_at(const uint8_t *before, const uint8_t *frame)
+static uint32_t search_ended_at(const uint8_t *before, const uint8_t *event)
 {
     uint8_t list[FROSTSORREL_EXPLANATION_BYTES];
-    uint64_t answer = frostsorrel_explain(before, FROSTSORREL_IMAGE_BYTES, frame, FROSTSORREL_EVENT_BYTES, list,
+    uint64_t answer = frostsorrel_explain(before, FROSTSORREL_IMAGE_BYTES, event, FROSTSORREL_EVENT_BYTES, list,
                                           sizeof list);
     size_t count = (size_t)frostsorrel_answer_count(answer);
 
@@ -343,16 +304,12 @@ static uint32_t search_ended_at(const uint8_t *before, const uint8_t *frame)
 
 static void say_not_taken(struct text *t, const uint8_t *before, const uint8_t *event)
 {
-    uint8_t frame[FROSTSORREL_EVENT_BYTES];
-    uint32_t n;
+    uint32_t n = search_ended_at(before, event);
 
-    if (!brings_frame(frame, before, event))
-        return;
-    n = search_ended_at(before, frame);
     if (n != FROSTSORREL_NO_MAILBOX)
         text_add(t, "it matches mailbox %lu, which transmits and does not reply (RFH 0): the search ends there",
                  wide(n));
-    else if (frostsorrel_event_value(frame) & FROSTSORREL_FRAME_RTR)
+    else if (frostsorrel_event_value(event) & FROSTSORREL_FRAME_RTR)
         text_add(t, "no enabled mailbox matches it");
     else
         text_add(t, "no enabled mailbox that receives matches it");
@@ -484,9 +441,6 @@ static void say_register_change(struct text *t, uint32_t number, uint32_t old, u
     } else if (number == FROSTSORREL_WORD_OPTIONS) {
         say_options(t, "+", new & ~old);
         say_options(t, "-", old & ~new);
-    } else if (number == FROSTSORREL_WORD_TESTS) {
-        say_tests(t, "+", new & ~old);
-        say_tests(t, "-", old & ~new);
     } else if (number == FROSTSORREL_WORD_MODE || number == FROSTSORREL_WORD_WAITING) {
         text_add(t, " %s -> %s", frostsorrel_mode_name(old), frostsorrel_mode_name(new));
     } else if (number == FROSTSORREL_WORD_SLOT) {

@@ -8,13 +8,9 @@
 /* "frame 0x718 data 03 7F 11 22", "frame 0x718 DLC 15 data 11 22 33 44 55 66 77 88", "write RMP = 0x20: mailbox 5" */
 void say_event(struct text *t, const uint8_t *event);
 
-/* The frame that a step brings, in the same words: its event, or what it sent in loop-back. */
-void say_brought(struct text *t, const uint8_t *before, const uint8_t *event);
-
 /*
- * What an accepted step answers, "mailbox 5, 1 compared", of a sending in loop-back "mailbox 2, looped back: frame 0x710
- * data 11, 1 compared", and what does not happen in it, "mailbox 0, TEC stays at 128: the unit is passive", "TEC stays at
- * 8: the unit is passive, REC 128"; nothing where there is nothing to say.
+ * What an accepted step answers, "mailbox 5, 1 compared", and what does not happen in it, "mailbox 0, TEC stays at 128:
+ * the unit is passive", "TEC stays at 8: the unit is passive, REC 128"; nothing where there is nothing to say.
  */
 void say_answer(struct text *t, const uint8_t *before, const uint8_t *event, uint64_t answer);
 
@@ -53,7 +49,7 @@ void say_change(struct text *t, const uint8_t *list, size_t entry);
 /* The same in numbers: "0x00000000 -> 0x00000020". */
 void say_contents(struct text *t, const uint8_t *list, size_t entry);
 
-/* Has a register this number? It may be one that can only be read, or only be written, or that only an eCAN takes. */
+/* Has a register this number? It may be one that can only be read, or one that only an eCAN takes. */
 int is_register(uint32_t number);
 
 /* "0x718", "ext 0x1234567": what word 0 of a mailbox, or a frame's value, has as identifier. */
@@ -76,13 +72,6 @@ void say_slot(struct text *t, uint32_t slot);
 
 /* " 5 RMLIF": the bits of GIF or GIM by number and by the name that GIF has for them, each with a sign before it. */
 void say_interrupts(struct text *t, const char *sign, uint32_t bits);
-
-/* The test modes by their value, as scenarios and reports call the event that sets them. */
-enum { TEST_VALUES = (FROSTSORREL_LOOP_BACK | FROSTSORREL_TEST_ERROR) + 1 };
-extern const char *const tests_words[TEST_VALUES];
-
-/* " loop-back", " test error": those that are on, or that changed, each with a sign before it. */
-void say_tests(struct text *t, const char *sign, uint32_t value);
 
 /* "normal", "configuration", "sleep", "suspend", or "bus off", which stands beside the modes here. */
 const char *state_of(const uint8_t *image);

@@ -80,15 +80,6 @@ first_unique p n i j a b = at (ltb i j) refl (ltb j i) refl
 pub first_by : (p : ℕ → Bool) (n i : ℕ) → First p n i → first_below p n ≡ i
 first_by p n i f = first_unique p n (first_below p n) i (first_is p n) f
 
--- it depends on the test below the bound alone
-pub first-same : (p q : ℕ → Bool) (n : ℕ) → ((k : ℕ) → k < n → p k ≡ q k) → first_below p n ≡ first_below q n
-unfolding first_below
-first-same p q zero h = refl
-first-same p q (suc n) h =
-    let e = first-same p q n (λ k l. h k (omega arith)) in
-    let l = h n (omega arith) in
-    λ i. cond (ltb (e i) n) (e i) (cond (l i) n (suc n))
-
 -- ---- how many numbers below a bound
 
 -- one number more

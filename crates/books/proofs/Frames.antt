@@ -1,8 +1,8 @@
 -- Every frame that is heard is of one class; one that is passed over is stored nowhere.
 use Prim.Native.Nat.{ℕ, zero, suc, ◌+◌, ◌<◌}
-use mathlib.Core.Path.{◌≡◌, refl, sym, ◌∙◌, ap}
-use mathlib.Core.Bool.{Bool, true, false, cond, not, ◌&&◌, and-true, and-false}
-use mathlib.Core.List.{List, [], ◌∷◌, ◌++◌, append-nil}
+use mathlib.Core.Path.{◌≡◌, refl, ◌∙◌, ap}
+use mathlib.Core.Bool.{Bool, true, false, cond, not, ◌&&◌, false≢true, and-true, and-false}
+use mathlib.Core.List.{List, [], ◌∷◌}
 use native.Mathlib.Omega.{arith}
 use lib.Dec.{eqb, ltb}
 use lib.ListN.{get_or}
@@ -17,7 +17,7 @@ use Rattle.registers.specs.Frames.{wakened, listened}
 use Rattle.registers.proofs.Laws.{byte-stays}
 use Rattle.mailboxes.specs.Mailbox.{mailboxes}
 use Rattle.events.specs.declared.Event.{Event}
-use Rattle.events.specs.declared.Event.TheVariants.{Heard}
+use Rattle.events.specs.declared.Event.TheVariants.{Refused, Register, Mailbox, Heard, Start, Outcome, ReceiveError, Recessive, Tick, Mode, Options, Reset}
 use Rattle.events.specs.declared.Frame.{Frame}
 use Rattle.events.specs.Decode.{event}
 use Rattle.filter.specs.declared.Delivery.{Delivery}
@@ -29,10 +29,10 @@ use Rattle.filter.proofs.Passed.{passed_nowhere}
 use Rattle.good.specs.Good.{good_block}
 use Rattle.answers.specs.Answer.{no_mailbox}
 use Rattle.refusals.specs.Refusal.{refusal}
-use Rattle.model.specs.Step.{brings, brought, own, goes, delivered, block_after, own_beside, stowed, beside_after, named_by, named, accepted, step}
-use Rattle.books.specs.Ledger.{Happening, one}
-use Rattle.books.specs.Happen.{when, direct, arrival, dozes, by_operation, by_sleep, happens, besides, happenings}
-use Rattle.books.specs.Frames.{counted, frames_in, heard, names, storing, asking, some, ignored, fits, unmatched, InOneClass, Classes, Overlooked}
+use Rattle.model.specs.Step.{own, goes, delivered, block_after, stowed, beside_after, named_by, named, accepted, step}
+use Rattle.books.specs.Ledger.{one}
+use Rattle.books.specs.Happen.{when, direct, dozes, happens, happenings}
+use Rattle.books.specs.Frames.{is_frame, brings, frames_in, heard, names, storing, asking, some, ignored, fits, unmatched, InOneClass, Classes, Overlooked}
 use Rattle.books.proofs.Balance.{one-not}
 use Rattle.books.proofs.Step.{no_other, still_asleep, none-ready, good_block_lem}
 
@@ -96,6 +96,7 @@ module _ (s : List ℕ) (f : Frame) where
 
   -- one that names no mailbox, or names one
   names_by : (x : Delivery) → delivery s f ≡ x → names s f ≡ named_by x
+  unfolding accepted named
   names_by x d = ap named_by d
 
   module _ (e : names s f ≡ no_mailbox) where
@@ -172,70 +173,84 @@ module _ (s : List ℕ) (f : Frame) where
 
 -- ---- the frames of a run
 
--- of a step, the same of its frame, if it brings one
-each : (s e : List ℕ) → InOneClass (λ (t : List ℕ → Frame → Bool). one (counted t s e))
-unfolding counted
-each s e = at (eqb (refusal s e) 0) (brings s (event e))
+-- of each event, the same of its frame
+each : (s : List ℕ) (v : Event) → InOneClass (λ (t : List ℕ → Frame → Bool). one (is_frame (t s) v))
+each s (Refused r) = refl
+each s (Register t v) = refl
+each s (Mailbox n k v) = refl
+each s (Heard f) = classed s f
+each s Start = refl
+each s (Outcome k) = refl
+each s (ReceiveError v) = refl
+each s Recessive = refl
+each s Tick = refl
+each s (Mode v) = refl
+each s (Options v) = refl
+each s Reset = refl
+
+brought : (s e : List ℕ) → InOneClass (λ (t : List ℕ → Frame → Bool). one (brings t s e))
+unfolding brings
+brought s e = at (eqb (refusal s e) 0)
   where
-    at : (u w : Bool) → InOneClass (λ (t : List ℕ → Frame → Bool). one (u && (w && t s (brought s (event e)))))
-    at true true = classed s (brought s (event e))
-    at true false = refl
-    at false w = refl
+    at : (u : Bool) → InOneClass (λ (t : List ℕ → Frame → Bool). one (u && is_frame (t s) (event e)))
+    at true = each s (event e)
+    at false = refl
 
 pub classes : Classes
 unfolding Classes frames_in
 classes s [] = refl
-classes s (e ∷ l) = omega (arith, each s e, classes (step s e).image l)
+classes s (e ∷ l) = omega (arith, brought s e, classes (step s e).image l)
 
 -- ---- a step that passes a frame over
 
--- it goes nowhere, and leaves what the operation itself does
-module _ (s : List ℕ) (v : Event) (c : ℕ) (d : goes s v ≡ Nowhere c) where
-  unnamed : named_by (goes s v) ≡ no_mailbox
-  unnamed = ap named_by d
+-- an event that passes a test of frames is a frame
+pub record Brought (test : Frame → Bool) (v : Event) : Type 0 where
+  pub frame : Frame
+  pub event_of : v ≡ Heard frame
+  pub passes_test : test frame ≡ true
 
-  unbooked : (m : ℕ) → m < mailboxes → happens s v m ≡ besides s v m
-  unfolding happens arrival when
-  unbooked m l =
-      rw (d, ne_eqb m no_mailbox (λ e. omega arith)) (ap (λ (h : List Happening). h ++ by_sleep s v) (append-nil (by_operation s v m)))
+frame_of_lem : (test : Frame → Bool) (v : Event) → is_frame test v ≡ true → Brought test v
+frame_of_lem test (Heard f) h = record { frame = f; event_of = refl; passes_test = h }
+frame_of_lem test (Refused r) h = absurd (false≢true h)
+frame_of_lem test (Register t v) h = absurd (false≢true h)
+frame_of_lem test (Mailbox n k v) h = absurd (false≢true h)
+frame_of_lem test Start h = absurd (false≢true h)
+frame_of_lem test (Outcome k) h = absurd (false≢true h)
+frame_of_lem test (ReceiveError v) h = absurd (false≢true h)
+frame_of_lem test Recessive h = absurd (false≢true h)
+frame_of_lem test Tick h = absurd (false≢true h)
+frame_of_lem test (Mode v) h = absurd (false≢true h)
+frame_of_lem test (Options v) h = absurd (false≢true h)
+frame_of_lem test Reset h = absurd (false≢true h)
 
-  unstored : (i : ℕ) → i < registers_at → get_or (accepted s v).image i 0 ≡ get_or (own_beside s v) i 0
-  unfolding accepted beside_after stowed
-  unstored i l = rw d (byte-stays (own_beside s v) (block_after s v) i l)
-
--- one from the bus: the answer names where it goes, and it ends no wait, so that nobody falls asleep
 module _ (s : List ℕ) (f : Frame) (c : ℕ) (d : delivery s f ≡ Nowhere c) where
-  nobody-named : (accepted s (Heard f)).mailbox ≡ no_mailbox
-  unfolding accepted named
-  nobody-named = ap named_by d
+  unnamed : (accepted s (Heard f)).mailbox ≡ no_mailbox
+  unnamed = names_by s f (Nowhere c) d
 
+  -- such a frame ends no wait, so nobody falls asleep
   no_sleep : good_block (block_of s) ≡ true → dozes (block_of s) (block_after s (Heard f)) ≡ false
   unfolding block_after own goes delivered settled risen listened
   no_sleep g =
       let b = block_of s in
       rw (d, none-ready b g) (no_other (asleep b) _ (still_asleep (wakened b) b.mode))
 
-  nothing-besides : good_block (block_of s) ≡ true → (m : ℕ) → besides s (Heard f) m ≡ []
-  unfolding direct when
-  nothing-besides g m = rw (no_sleep g)
+  unbooked : good_block (block_of s) ≡ true → (m : ℕ) → m < mailboxes → happens s (Heard f) m ≡ []
+  unfolding happens direct when
+  unbooked g m l = rw (unnamed, ne_eqb m no_mailbox (λ e. omega arith), no_sleep g)
+
+  unstored : (i : ℕ) → i < registers_at → get_or (accepted s (Heard f)).image i 0 ≡ get_or s i 0
+  unfolding accepted beside_after stowed
+  unstored i l = rw d (byte-stays s (block_after s (Heard f)) i l)
 
 pub overlooked : Overlooked
-unfolding Overlooked counted step happenings goes
+unfolding Overlooked brings step happenings
 overlooked s e h =
-    let v = event e in
-    let f = brought s v in
-    let z = and_l (eqb (refusal s e) 0) (brings s v && passed_over s f) h in
-    let q = and_r (eqb (refusal s e) 0) (brings s v && passed_over s f) h in
-    let c = compared_before s f mailboxes in
-    let d : goes s v ≡ Nowhere c = rw (and_l (brings s v) (passed_over s f) q) (passed_nowhere s f (and_r (brings s v) (passed_over s f) q)) in
-    let booked : (m : ℕ) → m < mailboxes → happenings s e m ≡ besides s v m = λ m l. rw z (unbooked s v c d m l) in
-    let left : (i : ℕ) → i < registers_at → get_or (step s e).image i 0 ≡ get_or (own_beside s v) i 0 = λ i l. rw z (unstored s v c d i l) in (
-      record { unnamed = unnamed s v c d; unbooked = booked; unstored = left },
-      λ g w.
-          let n : delivery s g ≡ Nowhere c = ap (goes s) (sym w) ∙ d in
-          record {
-            unnamed = rw (z, w) (nobody-named s g c n);
-            unbooked = λ m l. booked m l ∙ ap (λ (x : Event). besides s x m) w ∙ nothing-besides s g c n (good_block_lem s e z) m;
-            unstored = λ i l. left i l ∙ ap (λ (x : Event). get_or (own_beside s x) i 0) w;
-          },
-    )
+    let z = and_l (eqb (refusal s e) 0) (is_frame (passed_over s) (event e)) h in
+    let p = frame_of_lem (passed_over s) (event e) (and_r (eqb (refusal s e) 0) (is_frame (passed_over s) (event e)) h) in
+    let d = passed_nowhere s p.frame p.passes_test in
+    let c = compared_before s p.frame mailboxes in
+    record {
+      unnamed = rw (z, p.event_of) (unnamed s p.frame c d);
+      unbooked = λ m l. rw (z, p.event_of) (unbooked s p.frame c d (good_block_lem s e z) m l);
+      unstored = λ i l. rw (z, p.event_of) (unstored s p.frame c d i l);
+    }

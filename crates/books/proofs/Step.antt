@@ -2,7 +2,7 @@
 use Prim.Native.Nat.{ℕ, ◌<◌, ◌≤◌}
 use mathlib.Core.Path.{◌≡◌, refl, sym, ◌∙◌, ap, subst}
 use mathlib.Core.Bool.{Bool, true, false, cond, not, ◌&&◌, ◌||◌, false≢true, or-false, and-true}
-use mathlib.Core.List.{List, [], ◌∷◌, ◌++◌}
+use mathlib.Core.List.{List, [], ◌∷◌}
 use native.Mathlib.Omega.{arith}
 use lib.Dec.{eqb, ltb, leb, lit<, lit≤}
 use lib.ListN.{get_or, length}
@@ -16,13 +16,13 @@ use Rattle.registers.specs.declared.Block.{Block}
 use Rattle.registers.specs.Block.{image_bytes, block_of, with_mc, with_ta, with_aa, with_lam, with_gam, with_cdr, with_mbtif, with_mbrif, with_mbim, with_gim, with_bcr1, with_bcr2, with_tsc, with_protection, normal, no_mode, empty_slot, bus_off_at}
 use Rattle.fresh.specs.Fresh.{fresh_block}
 use Rattle.registers.specs.Status.{vacant, filled, ecan, asleep, bus_off}
-use Rattle.registers.specs.Writes.{slot_mask, protection_number, counters_number, counting, directed, requested, cancelled, released, noted, writes, written}
-use Rattle.registers.specs.Modes.{ticked, worsened, recessive, optioned, tested, asked, risen, ready, falls_asleep, entered, settled}
+use Rattle.registers.specs.Writes.{slot_mask, protection_number, directed, requested, cancelled, released, noted, writes, written}
+use Rattle.registers.specs.Modes.{ticked, worsened, recessive, optioned, asked, risen, ready, falls_asleep, entered, settled}
 use Rattle.registers.specs.Frames.{wakened, listened, stored, replied}
 use Rattle.registers.specs.Sending.{started, sent, failed, added, concluded}
 use Rattle.registers.proofs.Flags.{requested-trs, released-rmp, released-rml, ending-bit, late-bit, cancelled-trs, cancelled-trr, slot-bit, stored-rmp, stored-rml, replied-trs, sent-trs, sent-trr, aborting-bit, failed-trs, failed-trr}
 use Rattle.events.specs.declared.Event.{Event}
-use Rattle.events.specs.declared.Event.TheVariants.{Refused, Register, Mailbox, Heard, Start, Outcome, ReceiveError, Recessive, Tick, Mode, Options, Reset, Tests}
+use Rattle.events.specs.declared.Event.TheVariants.{Refused, Register, Mailbox, Heard, Start, Outcome, ReceiveError, Recessive, Tick, Mode, Options, Reset}
 use Rattle.events.specs.declared.Frame.{Frame}
 use Rattle.events.specs.Decode.{event, decoded}
 use Rattle.filter.specs.declared.Delivery.{Delivery}
@@ -30,16 +30,16 @@ use Rattle.filter.specs.declared.Delivery.TheVariants.{Into, Reply, Nowhere}
 use Rattle.filter.specs.Filter.{delivery}
 use Rattle.filter.proofs.Ways.{into, reply}
 use Rattle.sending.specs.Choice.{next}
-use Rattle.good.specs.Good.{contents, slot_asks, waits_for_reason, number_clauses, slot_clauses, good_tests, good_flags, good_numbers, good_slot, good_block, good_image}
+use Rattle.good.specs.Good.{contents, slot_asks, waits_for_reason, number_clauses, slot_clauses, good_flags, good_numbers, good_slot, good_block, good_image}
 use Rattle.good.proofs.Facts.{slot_below, slot-up}
 use Rattle.good.proofs.Image.{good_length}
 use Rattle.answers.specs.Answer.{no_mailbox, refused}
 use Rattle.refusals.specs.Refusal.{refusal, remaining}
 use Rattle.refusals.proofs.Order.{refusal-bad, refusal-good}
-use Rattle.model.specs.Step.{brings, brought, started_with, own, goes, delivered, acted, block_after, beside_after, named_by, named, accepted, step}
+use Rattle.model.specs.Step.{started_with, own, goes, delivered, acted, block_after, beside_after, named_by, named, accepted, step}
 use Rattle.model.proofs.Whole.{real}
 use Rattle.books.specs.Ledger.{Happening, store, acknowledge, request, cancel, start, send, fail, sleep, reset, after}
-use Rattle.books.specs.Happen.{when, by_write, direct, arrival, by_operation, by_frame, happens, happenings, in_slot}
+use Rattle.books.specs.Happen.{when, by_write, direct, happens, happenings, in_slot}
 use Rattle.books.proofs.Follows.{look, Follows, Any, none, both, Rows, table, same, once, then}
 use Rattle.model.proofs.Lengths.{length-after}
 use Rattle.books.proofs.Back.{look_back}
@@ -127,14 +127,14 @@ abbrev Sound : Bool → Block → Type 0
 Sound u b = Slotted b × (asleep b ≡ true → u ≡ true) × (u ≡ true → falls_asleep b ≡ false)
 
 module _ (b : Block) (g : good_block b ≡ true) where
-  groups : All (good_tests b ∷ good_flags b ∷ good_numbers b ∷ good_slot b ∷ [])
+  groups : All (good_flags b ∷ good_numbers b ∷ good_slot b ∷ [])
   unfolding good_block
-  groups = all (good_tests b ∷ good_flags b ∷ good_numbers b ∷ good_slot b ∷ []) g
+  groups = all (good_flags b ∷ good_numbers b ∷ good_slot b ∷ []) g
 
   -- what is in the slot is sent in normal mode, and has its request
   asks : filled b ≡ true → All (slot_asks b)
   unfolding good_slot
-  asks f = all (slot_asks b) (given (filled b) (every (slot_asks b)) (all (slot_clauses b) groups.1.1.1.0).1.0 f)
+  asks f = all (slot_asks b) (given (filled b) (every (slot_asks b)) (all (slot_clauses b) groups.1.1.0).1.0 f)
 
   slot-asks : filled b ≡ true → bit b.trs b.slot ≡ true
   slot-asks f =
@@ -143,7 +143,7 @@ module _ (b : Block) (g : good_block b ≡ true) where
 
   numbers : All (number_clauses b)
   unfolding good_numbers
-  numbers = all (number_clauses b) groups.1.1.0
+  numbers = all (number_clauses b) groups.1.0
 
   -- a mode waits for the slot or for bus off
   waits_for : not (eqb b.waiting no_mode) ≡ true → (filled b || bus_off b) ≡ true
@@ -279,7 +279,7 @@ module _ (u : Bool) (m : ℕ) (b : Block) where
   -- the table of writes
   write_follows : (t v : ℕ) → Follows (Sound u) m b (written b t v) (get_or (by_write (bit v m) (bit b.md m)) t [])
   unfolding written noted
-  write_follows t v = counted (eqb t counters_number) refl
+  write_follows t v = at (eqb t protection_number) refl
     where
       quiet : (c : Block) → look m c ≡ look m b → (Sound u b → Sound u c) → Follows (Sound u) m b c []
       quiet = none m b
@@ -291,11 +291,6 @@ module _ (u : Bool) (m : ℕ) (b : Block) where
           → Follows (Sound u) m b (cond p (with_protection b v) (get_or (writes b v) t b)) (get_or (by_write (bit v m) (bit b.md m)) t [])
       at true e = rw (eqb-true t protection_number e) (quiet (with_protection b v) refl (λ k. k))
       at false e = table m b (writes b v) (by_write (bit v m) (bit b.md m)) rows t
-
-      counted : (p : Bool) → eqb t counters_number ≡ p
-          → Follows (Sound u) m b (cond p (counting b v) (cond (eqb t protection_number) (with_protection b v) (get_or (writes b v) t b))) (get_or (by_write (bit v m) (bit b.md m)) t [])
-      counted true e = rw (eqb-true t counters_number e) (quiet (counting b v) refl (λ k. k))
-      counted false e = at (eqb t protection_number) refl
 
   -- a mode that is asked for
   ask_follows : (v : ℕ) → (u ≡ true → asleep b ≡ true) → Follows (Sound u) m b (asked b v) []
@@ -345,56 +340,41 @@ module _ (m : ℕ) (hm : m < 32) (s : List ℕ) where
   abbrev u : Bool
   u = asleep b
 
-  -- the operation itself
-  own_follows : (v : Event) → good_block b ≡ true → remaining s v ≡ 0 → Follows (Sound u) m b (own s v) (by_operation s v m)
-  unfolding own direct accepted named remaining worsened recessive ticked
-  own_follows (Refused r) g z = none m b b refl (λ k. k)
-  own_follows (Register t v) g z = write_follows u m b t v
-  own_follows (Mailbox n k v) g z = none m b b refl (λ k. k)
-  own_follows (Heard f) g z = none m b b refl (λ k. k)
-  own_follows Start g z = start_follows u m b (next s) hm (not-false _ (clear (filled b) 5 (lit< tt) z))
-  own_follows (Outcome k) g z =
-      let f = ap not (clear (vacant b) 7 (lit< tt) z) in
-      outcome_follows u m b f k (slot-asks b g f)
-  own_follows (ReceiveError v) g z = none m b (worsened b v) refl (λ k. k)
-  own_follows Recessive g z = none m b (recessive b) refl (λ k. k)
-  own_follows Tick g z = none m b (ticked b) refl (λ k. k)
-  own_follows (Mode v) g z = ask_follows u m b v (λ z. z)
-  own_follows (Options v) g z = none m b (optioned b v) refl (λ k. k)
-  own_follows Reset g z = reset_follows u m b b.profile
-  own_follows (Tests v) g z = none m b (tested b v) refl (λ k. k)
+  listen_follows : Follows (Sound u) m b (listened b) []
+  unfolding listened
+  listen_follows = none m b (listened b) refl (λ k. (k.0, λ z. k.1 (still_asleep (wakened b) b.mode z), k.2))
 
-  -- the frame that it brings, from the bus or our own: x is what the operation left
-  module _ (x : Block) where
-    listen_follows : Follows (Sound u) m x (listened x) []
-    unfolding listened
-    listen_follows = none m x (listened x) refl (λ k. (k.0, λ z. k.1 (still_asleep (wakened x) x.mode z), k.2))
-
-    -- it is stored at a mailbox that receives, and asks another one to reply
-    frame_follows : (f : Frame) (d : Delivery) → delivery s f ≡ d
-        → Follows (Sound u) m x (delivered (listened x) f.rtr d) (arrival (eqb m (named_by d)) (bit b.md m))
-    unfolding delivered arrival
-    frame_follows f (Into n c) e =
-        subst (Follows (Sound u) m x (stored (listened x) n f.rtr))
-        (kind (eqb m n) store _ (λ q. rw (ap (bit b.md) (eqb-true m n q) ∙ (into s f n c e).receiver)))
-        (both m x (listened x) _ [] _ listen_follows (store_follows u m (listened x) n f.rtr))
-    frame_follows f (Reply n c) e =
-        subst (Follows (Sound u) m x (replied (listened x) n))
-        (kind (eqb m n) request _ (λ q. rw (ap (bit b.md) (eqb-true m n q) ∙ (reply s f n c e).transmitter)))
-        (both m x (listened x) _ [] _ listen_follows (reply_follows u m (listened x) n))
-    frame_follows f (Nowhere c) e = rw (ne_eqb m no_mailbox (λ q. omega arith)) (unfold when in listen_follows)
-
-    -- or there is none
-    brought_follows : (f : Frame) (t : Bool)
-        → Follows (Sound u) m x (delivered (cond t (listened x) x) f.rtr (cond t (delivery s f) (Nowhere 0))) (arrival (eqb m (named_by (cond t (delivery s f) (Nowhere 0)))) (bit b.md m))
-    unfolding delivered arrival
-    brought_follows f true = frame_follows f (delivery s f) refl
-    brought_follows f false = rw (ne_eqb m no_mailbox (λ q. omega arith)) (unfold when in none m x x refl (λ k. k))
+  -- a frame is stored at a mailbox that receives, and asks another one to reply
+  frame_follows : (f : Frame) (d : Delivery) → delivery s f ≡ d
+      → Follows (Sound u) m b (delivered (listened b) f.rtr d) (when (eqb m (named_by d)) (cond (bit b.md m) store request))
+  unfolding delivered
+  frame_follows f (Into n c) e =
+      subst (Follows (Sound u) m b (stored (listened b) n f.rtr))
+      (kind (eqb m n) store _ (λ q. rw (ap (bit b.md) (eqb-true m n q) ∙ (into s f n c e).receiver)))
+      (both m b (listened b) _ [] _ listen_follows (store_follows u m (listened b) n f.rtr))
+  frame_follows f (Reply n c) e =
+      subst (Follows (Sound u) m b (replied (listened b) n))
+      (kind (eqb m n) request _ (λ q. rw (ap (bit b.md) (eqb-true m n q) ∙ (reply s f n c e).transmitter)))
+      (both m b (listened b) _ [] _ listen_follows (reply_follows u m (listened b) n))
+  frame_follows f (Nowhere c) e = rw (ne_eqb m no_mailbox (λ q. omega arith)) (unfold when in listen_follows)
 
   acted_follows : (v : Event) → good_block b ≡ true → remaining s v ≡ 0
-      → Follows (Sound u) m b (acted s v) (by_operation s v m ++ by_frame s v m)
-  unfolding goes
-  acted_follows v g z = both m b (own s v) _ _ _ (own_follows v g z) (brought_follows (own s v) (brought s v) (brings s v))
+      → Follows (Sound u) m b (acted s v) (direct (eqb m (accepted s v).mailbox) (bit b.md m) v m)
+  unfolding own goes delivered direct accepted named remaining worsened recessive ticked
+  acted_follows (Refused r) g z = none m b b refl (λ k. k)
+  acted_follows (Register t v) g z = write_follows u m b t v
+  acted_follows (Mailbox n k v) g z = none m b b refl (λ k. k)
+  acted_follows (Heard f) g z = frame_follows f (delivery s f) refl
+  acted_follows Start g z = start_follows u m b (next s) hm (not-false _ (clear (filled b) 5 (lit< tt) z))
+  acted_follows (Outcome k) g z =
+      let f = ap not (clear (vacant b) 7 (lit< tt) z) in
+      outcome_follows u m b f k (slot-asks b g f)
+  acted_follows (ReceiveError v) g z = none m b (worsened b v) refl (λ k. k)
+  acted_follows Recessive g z = none m b (recessive b) refl (λ k. k)
+  acted_follows Tick g z = none m b (ticked b) refl (λ k. k)
+  acted_follows (Mode v) g z = ask_follows u m b v (λ z. z)
+  acted_follows (Options v) g z = none m b (optioned b v) refl (λ k. k)
+  acted_follows Reset g z = reset_follows u m b b.profile
 
   -- at the end GIF rises, which no book sees, and a waiting mode may be taken
   end_follows : (a c : Block) → Sound u c → Follows Slotted m c (settled (risen a c)) (when (not u && asleep (settled (risen a c))) sleep)

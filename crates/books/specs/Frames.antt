@@ -1,32 +1,47 @@
 -- The frames of a run, by what became of each: document 02, g) counts apart those that every matching mailbox passed over.
-use Rattle.std.specs.Prelude.{ℕ, ◌+◌, ◌<◌, ◌≡◌, Bool, true, not, ◌&&◌, List, [], ◌∷◌, eqb, ltb, get_or}
+use Rattle.std.specs.Prelude.{ℕ, ◌+◌, ◌<◌, ◌≡◌, Bool, true, false, not, ◌&&◌, List, [], ◌∷◌, eqb, ltb, get_or}
 use Rattle.bits.specs.Bit.{bit}
 use Rattle.bits.specs.Below.{count_below}
 use Rattle.registers.specs.Block.{registers_at, block_of}
 use Rattle.registers.specs.Modes.{on_bus}
 use Rattle.mailboxes.specs.Mailbox.{mailboxes}
-use Rattle.events.specs.declared.Event.TheVariants.{Heard}
+use Rattle.events.specs.declared.Event.{Event}
+use Rattle.events.specs.declared.Event.TheVariants.{Refused, Register, Mailbox, Heard, Start, Outcome, ReceiveError, Recessive, Tick, Mode, Options, Reset}
 use Rattle.events.specs.declared.Frame.{Frame}
 use Rattle.events.specs.Decode.{event}
-use Rattle.filter.specs.Filter.{candidates, matches, hits, passed_over, delivery}
+use Rattle.filter.specs.Filter.{candidates, matches, hits, passed_over}
 use Rattle.answers.specs.Answer.{no_mailbox}
 use Rattle.refusals.specs.Refusal.{refusal}
 use Rattle.fresh.specs.Fresh.{fresh_image}
-use Rattle.model.specs.Step.{brings, brought, goes, own_beside, named_by, step}
+use Rattle.model.specs.Step.{accepted, step}
 use Rattle.books.specs.Ledger.{one}
-use Rattle.books.specs.Happen.{besides, happenings}
+use Rattle.books.specs.Happen.{happenings}
 
 -- ---- counting
 
--- Does a step bring a frame that passes a test of it and of the image s that the bytes e come to? A refused event brings none. By document
--- 02, h) a frame of our own that comes back in loop-back is a frame like one from the bus.
-unfoldable pub counted : (List ℕ → Frame → Bool) → List ℕ → List ℕ → Bool
-counted test s e = eqb (refusal s e) 0 && (brings s (event e) && test s (brought s (event e)))
+-- Is the event a frame that passes a test?
+abbrev pub is_frame : (Frame → Bool) → Event → Bool
+is_frame test (Refused r) = false
+is_frame test (Register t v) = false
+is_frame test (Mailbox n k v) = false
+is_frame test (Heard f) = test f
+is_frame test Start = false
+is_frame test (Outcome k) = false
+is_frame test (ReceiveError v) = false
+is_frame test Recessive = false
+is_frame test Tick = false
+is_frame test (Mode v) = false
+is_frame test (Options v) = false
+is_frame test Reset = false
+
+-- The same of the bytes e that come to the image s, and of a test of both. A refused event brings no frame.
+unfoldable pub brings : (List ℕ → Frame → Bool) → List ℕ → List ℕ → Bool
+brings test s e = eqb (refusal s e) 0 && is_frame (test s) (event e)
 
 -- How many frames of a run pass a test, each with the image that it came to.
 unfoldable pub frames_in : (List ℕ → Frame → Bool) → List ℕ → List (List ℕ) → ℕ
 frames_in test s [] = 0
-frames_in test s (e ∷ l) = one (counted test s e) + frames_in test (step s e).image l
+frames_in test s (e ∷ l) = one (brings test s e) + frames_in test (step s e).image l
 
 -- Document 02, g): how many frames were passed over, in a run from a fresh model of a profile.
 abbrev pub passed_in : ℕ → List (List ℕ) → ℕ
@@ -38,10 +53,9 @@ passed_in profile events = frames_in passed_over (fresh_image profile) events
 abbrev pub heard : List ℕ → Frame → Bool
 heard s f = on_bus (block_of s)
 
--- Receiving: the mailbox that the frame goes to stores it where it receives, and is asked for a reply where it transmits. The answer to a
--- frame from the bus names that mailbox; in loop-back the answer names the sender.
+-- Receiving: the mailbox that the answer names stores the frame where it receives, and is asked for a reply where it transmits.
 abbrev pub names : List ℕ → Frame → ℕ
-names s f = named_by (delivery s f)
+names s f = (accepted s (Heard f)).mailbox
 
 abbrev pub storing : List ℕ → Frame → Bool
 storing s f = ltb (names s f) mailboxes && bit (block_of s).md (names s f)
@@ -75,21 +89,12 @@ InOneClass count = count heard ≡ count storing + count asking + count ignored 
 unfoldable pub Classes : Type 0
 Classes = (s : List ℕ) (events : List (List ℕ)) → InOneClass (λ (test : List ℕ → Frame → Bool). frames_in test s events)
 
--- Document 02, g) and h): a frame that is passed over is stored nowhere, be it from the bus or our own. It goes to no mailbox; at each of
--- them nothing happens but what happens without it, the operation itself and a sleep at the end, so that by EachStep their flags are
--- those; and the bytes of the mailboxes, which stand before the registers, are those that the operation itself leaves.
+-- Document 02, g): a frame that is passed over is stored nowhere. The step names no mailbox; nothing is booked at any of them, so that by
+-- EachStep their flags stay; and no byte of the mailboxes, which stand before the registers, changes.
 pub record PassedBy (s e : List ℕ) : Type 0 where
-  pub unnamed : named_by (goes s (event e)) ≡ no_mailbox
-  pub unbooked : (m : ℕ) → m < mailboxes → happenings s e m ≡ besides s (event e) m
-  pub unstored : (i : ℕ) → i < registers_at → get_or (step s e).image i 0 ≡ get_or (own_beside s (event e)) i 0
-
--- Document 02, g): of a frame from the bus there is nothing else. The step names no mailbox, nothing is booked at any of them, and no byte
--- of the mailboxes changes.
-pub record Untouched (s e : List ℕ) : Type 0 where
   pub unnamed : (step s e).mailbox ≡ no_mailbox
   pub unbooked : (m : ℕ) → m < mailboxes → happenings s e m ≡ []
   pub unstored : (i : ℕ) → i < registers_at → get_or (step s e).image i 0 ≡ get_or s i 0
 
 unfoldable pub Overlooked : Type 0
-Overlooked =
-    (s e : List ℕ) → counted passed_over s e ≡ true → PassedBy s e × ((f : Frame) → event e ≡ Heard f → Untouched s e)
+Overlooked = (s e : List ℕ) → brings passed_over s e ≡ true → PassedBy s e

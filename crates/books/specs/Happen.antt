@@ -1,4 +1,4 @@
--- What happens at mailbox m in a step, from the event, its answer, and where a frame that it brings goes; runs of steps, their books, and what is claimed of them.
+-- What happens at mailbox m in a step, from the event and its answer; runs of steps, their books, and what is claimed of them.
 use Rattle.std.specs.Prelude.{ℕ, ◌<◌, ◌≤◌, ◌≡◌, Bool, cond, not, ◌&&◌, List, [], ◌∷◌, ◌++◌, eqb, get_or}
 use Rattle.bits.specs.Bit.{bit}
 use Rattle.registers.specs.declared.Block.{Block}
@@ -6,11 +6,11 @@ use Rattle.registers.specs.Block.{block_of, e_can}
 use Rattle.registers.specs.Status.{filled, asleep}
 use Rattle.mailboxes.specs.Mailbox.{mailboxes}
 use Rattle.events.specs.declared.Event.{Event}
-use Rattle.events.specs.declared.Event.TheVariants.{Refused, Register, Mailbox, Heard, Start, Outcome, ReceiveError, Recessive, Tick, Mode, Options, Reset, Tests}
+use Rattle.events.specs.declared.Event.TheVariants.{Refused, Register, Mailbox, Heard, Start, Outcome, ReceiveError, Recessive, Tick, Mode, Options, Reset}
 use Rattle.events.specs.Decode.{event}
 use Rattle.refusals.specs.Refusal.{refusal}
 use Rattle.fresh.specs.Fresh.{fresh_image}
-use Rattle.model.specs.Step.{goes, block_after, named_by, accepted, step}
+use Rattle.model.specs.Step.{block_after, accepted, step}
 use Rattle.books.specs.Ledger.{Happening, store, acknowledge, request, cancel, start, send, fail, sleep, reset, Now, now, afters, Book, books, empty, Balanced}
 
 -- ---- one step
@@ -25,13 +25,13 @@ abbrev pub by_write : Bool → Bool → List (List Happening)
 by_write set receives =
     [] ∷ [] ∷ when (set && not receives) request ∷ when set cancel ∷ [] ∷ [] ∷ when set acknowledge ∷ []
 
--- The events: what each operation itself does at mailbox m, by two tests: does the answer name it, and does it receive? Every outcome but
--- sent (0) is one that failed.
+-- The events: what each operation does at mailbox m, by two tests: does the answer name it, and does it receive? A frame is stored where
+-- it does, and asks for a reply elsewhere. Every outcome but sent (0) is one that failed.
 unfoldable pub direct : Bool → Bool → Event → ℕ → List Happening
 direct named receives (Refused r) m = []
 direct named receives (Register t v) m = get_or (by_write (bit v m) receives) t []
 direct named receives (Mailbox n k v) m = []
-direct named receives (Heard f) m = []
+direct named receives (Heard f) m = when named (cond receives store request)
 direct named receives Start m = when named start
 direct named receives (Outcome k) m = when named (cond (eqb k 0) send fail)
 direct named receives (ReceiveError v) m = []
@@ -40,36 +40,15 @@ direct named receives Tick m = []
 direct named receives (Mode v) m = []
 direct named receives (Options v) m = []
 direct named receives Reset m = reset ∷ []
-direct named receives (Tests v) m = []
-
--- Receiving: what a frame does at a mailbox, by two tests: does it go there, and does the mailbox receive? It is stored where it does, and
--- asks for a reply elsewhere.
-unfoldable pub arrival : Bool → Bool → List Happening
-arrival here receives = when here (cond receives store request)
 
 -- Sending, errors, modes: did the unit fall asleep between two blocks?
 abbrev pub dozes : Block → Block → Bool
 dozes before after = not (asleep before) && asleep after
 
--- The books of one mailbox: what happens at m in an accepted step by the operation itself, by the frame that it brings, and by a sleep.
--- Besides the event, its answer and where the frame goes, only MD's bit and the mode are read. Where a frame from the bus goes, the
--- answer names; in loop-back, document 02, h), the answer names the sender, and filtering says where its frame goes.
-abbrev pub by_operation : List ℕ → Event → ℕ → List Happening
-by_operation s e m = direct (eqb m (accepted s e).mailbox) (bit (block_of s).md m) e m
-
-abbrev pub by_frame : List ℕ → Event → ℕ → List Happening
-by_frame s e m = arrival (eqb m (named_by (goes s e))) (bit (block_of s).md m)
-
-abbrev pub by_sleep : List ℕ → Event → List Happening
-by_sleep s e = when (dozes (block_of s) (block_after s e)) sleep
-
--- An accepted step: all three, in this order. So by document 02, h) one step may be a sending and a store, or a sending and a request.
+-- An accepted step: the operation, then a sleep, which comes at its end. Besides event and answer only MD's bit and the mode are read.
 unfoldable pub happens : List ℕ → Event → ℕ → List Happening
-happens s e m = by_operation s e m ++ by_frame s e m ++ by_sleep s e
-
--- Document 02, g) and h): the same step without its frame.
-abbrev pub besides : List ℕ → Event → ℕ → List Happening
-besides s e m = by_operation s e m ++ by_sleep s e
+happens s e m =
+    direct (eqb m (accepted s e).mailbox) (bit (block_of s).md m) e m ++ when (dozes (block_of s) (block_after s e)) sleep
 
 -- The books of one mailbox: what happens at m when the bytes e come to the image s; a refused step books nothing.
 unfoldable pub happenings : List ℕ → List ℕ → ℕ → List Happening

@@ -11,12 +11,12 @@ use Rattle.bits.specs.Bit.{bit}
 use Rattle.bits.proofs.Sets.{and_l, and_r}
 use Rattle.bits.proofs.Tests.{all}
 use Rattle.words.proofs.Bytes.{Bytes, word_lt}
-use Rattle.mailboxes.specs.Mailbox.{mailbox_word, word_layout, layout}
+use Rattle.mailboxes.specs.Mailbox.{word_layout}
 use Rattle.mailboxes.specs.Filing.{highest_dlc, data_bytes}
 use Rattle.events.specs.declared.Frame.{Frame}
 use Rattle.events.specs.declared.Event.{Event}
-use Rattle.events.specs.declared.Event.TheVariants.{Refused, Register, Mailbox, Heard, Start, Outcome, ReceiveError, Recessive, Tick, Mode, Options, Reset, Tests}
-use Rattle.events.specs.Parts.{operation, target, word, value, frame_of, frame_bytes, frame_allowed, frame_at}
+use Rattle.events.specs.declared.Event.TheVariants.{Refused, Register, Mailbox, Heard, Start, Outcome, ReceiveError, Recessive, Tick, Mode, Options, Reset}
+use Rattle.events.specs.Parts.{operation, target, word, value, frame_of, frame_bytes, frame_allowed}
 use Rattle.events.specs.Decode.{writable, last_outcome, known_as, quiet_as, register_allowed, allowed_as, event_as, unknown, disallowed, event, decoded}
 use Rattle.events.proofs.Laws.{operations, Each, each}
 use Rattle.events.proofs.Unused.{payload_lt, quiet_data}
@@ -37,14 +37,10 @@ pub record MailboxAllowed (n k v : ℕ) : Type 0 where
   pub small : v < 2 ^ 32
   pub laid : word_layout k v ≡ true
 
--- a frame whose words keep a mailbox to its layout: one that is heard, or one that a mailbox holds
-pub record FrameFits (f : Frame) : Type 0 where
+pub record FrameAllowed (f : Frame) : Type 0 where
   pub dlc : f.dlc ≤ highest_dlc
   pub identifier : f.id.0 < 2 ^ 29
   pub standard : f.ide ≡ false → f.id.0 % 2 ^ 18 ≡ 0
-
-pub record FrameAllowed (f : Frame) : Type 0 where
-  pub fits : FrameFits f
   pub small : f.bytes < 2 ^ 64
   pub unused : f.bytes / 2 ^ (8 * data_bytes f.rtr f.dlc) ≡ 0
 
@@ -61,7 +57,6 @@ Allowed p Tick = Unit
 Allowed p (Mode v) = v ≤ 3
 Allowed p (Options v) = v ≤ 3
 Allowed p Reset = Unit
-Allowed p (Tests v) = v ≤ 3
 
 -- ---- an operation at a time
 
@@ -91,11 +86,9 @@ module _ (p : Bool) (e : List ℕ) (b : Bytes e) where
       let v = value e in
       let f = all (leb (target e) highest_dlc ∷ not (bit v 29) ∷ (bit v 31 || eqb (v % 2 ^ 18) 0) ∷ []) a in
       record {
-        fits = record {
-          dlc = leb-true (target e) highest_dlc f.0;
-          identifier = omega arith;
-          standard = λ i. let z = eqb-true (v % 2 ^ 18) 0 (rw i at f.1.1.0) in omega arith;
-        };
+        dlc = leb-true (target e) highest_dlc f.0;
+        identifier = omega arith;
+        standard = λ i. let z = eqb-true (v % 2 ^ 18) 0 (rw i at f.1.1.0) in omega arith;
         small = payload_lt e b;
         unused = quiet_data e true false true (frame_bytes e) q;
       }
@@ -112,15 +105,12 @@ module _ (p : Bool) (e : List ℕ) (b : Bytes e) where
   options : Fits 9
   options k q a = leb-true (value e) 3 a
 
-  tests : Fits 11
-  tests k q a = leb-true (value e) 3 a
-
   allowed_as_lem : Each Fits operations
   allowed_as_lem =
       let writes : Each Fits 2 = ((tt, register), mailbox) in
       let sends : Each Fits 5 = (((writes, heard), λ k q a. tt), outcome) in
       let counts : Each Fits 8 = (((sends, receive_error), λ k q a. tt), λ k q a. tt) in
-      ((((counts, mode), options), λ k q a. tt), tests)
+      (((counts, mode), options), λ k q a. tt)
 
 pub allowed : (p : Bool) (e : List ℕ) → Bytes e → unknown e ≡ false → disallowed p e ≡ false → Allowed p (event e)
 allowed p e b u d =
@@ -135,16 +125,3 @@ pub decoded_allowed : (a p : Bool) (e : List ℕ) (v : Event) → Bytes e → de
 decoded_allowed a p e v b h n =
     let x = accepted a p e v h n in
     subst (Allowed p) (sym x.same) (allowed p e b x.known x.fair)
-
--- loop-back: the frame that a mailbox holds fits a mailbox
-pub held_fits : (s : List ℕ) (n : ℕ) → layout s n ≡ true → FrameFits (frame_at s n)
-unfolding layout frame_at
-held_fits s n h =
-    let w = mailbox_word s n 0 in
-    let c = mailbox_word s n 1 in
-    let first = and_l (word_layout 0 w) (word_layout 1 c) h in
-    record {
-      dlc = omega arith;
-      identifier = omega arith;
-      standard = λ i. let z = eqb-true (w % 2 ^ 18) 0 (rw i at first) in omega arith;
-    }

@@ -4,7 +4,7 @@ use mathlib.Core.Path.{◌≡◌, refl, sym, ◌∙◌, ap, subst}
 use mathlib.Core.Bool.{Bool, true, false, cond, not, ◌&&◌, and-false}
 use mathlib.Core.List.{List}
 use mathlib.Core.Logic.{◌≢◌}
-use lib.Dec.{eqb, leb}
+use lib.Dec.{eqb}
 use native.Mathlib.Decide.{ℕ_discrete}
 use native.Mathlib.Omega.{arith}
 use lib.ListN.{length, get_or-eq_default}
@@ -13,12 +13,12 @@ use borrow.Author.Tests.{eq-eqb, ne_eqb}
 use Rattle.bits.proofs.Below.{past}
 use Rattle.events.specs.declared.Event.{Event}
 use Rattle.events.specs.declared.Event.TheVariants.{Refused}
-use Rattle.events.specs.Parts.{event_bytes, operation, value, quiet}
+use Rattle.events.specs.Parts.{event_bytes, operation, quiet}
 use Rattle.events.specs.Decode.{quiet_as, allowed_as, decoded, decoded_as, frame_refusal}
 
--- The events: operations 0 to 11.
+-- The events: operations 0 to 10.
 abbrev pub operations : ℕ
-operations = 12
+operations = 11
 
 -- 16 bytes are judged by their operation
 pub decoded_as_lem : (a p : Bool) (e : List ℕ) (k : ℕ) → length e ≡ event_bytes → operation e ≡ k → decoded a p e ≡ decoded_as k a p e
@@ -72,14 +72,6 @@ quiet_or false v = refl
 pub plain_or : (v : Event) (e : List ℕ)
     → cond (quiet e false false false 0) v (Refused 4) ≡ cond (not (quiet e false false false 0 && true)) (Refused 4) v
 plain_or v e = quiet_or (quiet e false false false 0) v
-
--- one that uses its value alone, 0 to 3
-pub choice_or : (v : ℕ → Event) (e : List ℕ) (x : ℕ) → x ≡ value e
-    → cond (quiet e false false true 0 && leb (value e) 3) (v x) (Refused 4)
-    ≡ cond (not (quiet e false false true 0 && leb (value e) 3)) (Refused 4) (v (value e))
-choice_or v e x p =
-    let fits = quiet e false false true 0 && leb (value e) 3 in
-    ap (λ (y : ℕ). cond fits (v y) (Refused 4)) p ∙ allowed_or fits (v (value e))
 
 -- n bytes are shifted out in two halves
 pub halves : (x n : ℕ) → x / 2 ^ (4 * n) / 2 ^ (4 * n) ≡ x / 2 ^ (8 * n)

@@ -13,7 +13,7 @@ use Rattle.bits.proofs.Tests.{neither}
 use Rattle.bits.specs.Below.{all_below}
 use Rattle.bits.proofs.Below.{each_below}
 use Rattle.events.specs.declared.Event.{Event}
-use Rattle.events.specs.declared.Event.TheVariants.{Refused, Register, Mailbox, Heard, Start, Outcome, ReceiveError, Recessive, Tick, Mode, Options, Reset, Tests}
+use Rattle.events.specs.declared.Event.TheVariants.{Refused, Register, Mailbox, Heard, Start, Outcome, ReceiveError, Recessive, Tick, Mode, Options, Reset}
 use Rattle.events.specs.Parts.{event_bytes, operation}
 use Rattle.events.specs.Decode.{known_as, wakeful_as, event_as, unknown, wakeful, disallowed, event, decoded}
 use Rattle.events.proofs.Laws.{operations}
@@ -75,7 +75,6 @@ operation_of Tick = 7
 operation_of (Mode v) = 8
 operation_of (Options v) = 9
 operation_of Reset = 10
-operation_of (Tests v) = 11
 
 abbrev pub is_refused : Event → Bool
 is_refused v = eqb (operation_of v) operations

@@ -3,13 +3,13 @@ use Rattle.std.specs.Prelude.{ℕ, Bool, true, false, cond, not, ◌&&◌, ◌||
 use Rattle.bits.specs.Tests.{top_down, gap_down}
 use Rattle.mailboxes.specs.Mailbox.{word_layout}
 use Rattle.events.specs.declared.Event.{Event}
-use Rattle.events.specs.declared.Event.TheVariants.{Refused, Register, Mailbox, Heard, Start, Outcome, ReceiveError, Recessive, Tick, Mode, Options, Reset, Tests}
+use Rattle.events.specs.declared.Event.TheVariants.{Refused, Register, Mailbox, Heard, Start, Outcome, ReceiveError, Recessive, Tick, Mode, Options, Reset}
 use Rattle.events.specs.Parts.{event_bytes, operation, target, word, value, quiet, frame_of, frame_bytes, frame_allowed}
 
 -- The events, refusal 2: the registers that can be written: 0 to 19, but neither RML (7) nor RFP (10); by document 02,
--- g), the masks of an eCAN, 64 to 95, and its protection word, 96; by h), both error counters as one, 33.
+-- g), the masks of an eCAN, 64 to 95, and its protection word, 96.
 abbrev pub writable : ℕ → Bool
-writable t = (leb t 19 && not (eqb t 7) && not (eqb t 10)) || eqb t 33 || (leb 64 t && leb t 96)
+writable t = (leb t 19 && not (eqb t 7) && not (eqb t 10)) || (leb 64 t && leb t 96)
 
 abbrev pub is_mask : ℕ → Bool
 is_mask t = leb 64 t && leb t 95
@@ -27,7 +27,6 @@ known_as op e =
     ∷ true
     ∷ true
     ∷ leb (target e) last_outcome
-    ∷ true
     ∷ true
     ∷ true
     ∷ true
@@ -56,17 +55,16 @@ quiet_as op e =
     ∷ quiet e false false true 0
     ∷ quiet e false false true 0
     ∷ quiet e false false false 0
-    ∷ quiet e false false true 0
     ∷ [])
     op true
 
 -- The events, not allowed: which values a register takes: LAM, GAM and the masks without bits 30 and 29, CDR without bit 31
--- unless it is an eCAN, GIF, GIM and the error counters of 8 bits, BCR1 and BCR2 of 10, TSC only 0; every other one any value.
+-- unless it is an eCAN, GIF and GIM of 8 bits, BCR1 and BCR2 of 10, TSC only 0; every other one any value.
 unfoldable pub register_allowed : Bool → ℕ → ℕ → Bool
 register_allowed ecan t v =
     cond (eqb t 8 || eqb t 9 || is_mask t) (gap_down v)
     (cond (eqb t 11) (ecan || top_down v)
-    (cond (eqb t 15 || eqb t 16 || eqb t 33) (ltb v 256)
+    (cond (eqb t 15 || eqb t 16) (ltb v 256)
     (cond (eqb t 17 || eqb t 18) (ltb v 1024)
     (cond (eqb t 19) (eqb v 0) true))))
 
@@ -85,7 +83,6 @@ allowed_as op ecan e =
     ∷ leb (value e) 3
     ∷ leb (value e) 3
     ∷ true
-    ∷ leb (value e) 3
     ∷ [])
     op true
 
@@ -104,7 +101,6 @@ event_as op e =
     ∷ Mode (value e)
     ∷ Options (value e)
     ∷ Reset
-    ∷ Tests (value e)
     ∷ [])
     op (Refused 2)
 

@@ -3,9 +3,7 @@ use Rattle.std.specs.Prelude.{ℕ, ◌+◌, ◌*◌, ◌/◌, ◌%◌, ◌^◌, 
 use Rattle.bits.specs.Bit.{bit}
 use Rattle.bits.specs.Tests.{every}
 use Rattle.words.specs.Word.{word_at}
-use Rattle.mailboxes.specs.Mailbox.{mailbox, mailbox_word, ide, rtr, dlc}
-use Rattle.mailboxes.specs.Arbitration.{identifier_of}
-use Rattle.mailboxes.specs.Filing.{highest_dlc, data_bytes, data_of}
+use Rattle.mailboxes.specs.Filing.{highest_dlc, data_bytes}
 use Rattle.events.specs.declared.Frame.{Frame}
 
 -- The events, 16 bytes each: one each for operation, target and word, an unused one, four for the value, eight of data.
@@ -53,12 +51,6 @@ frame_bytes e = data_bytes (bit (value e) 30) (target e)
 unfoldable pub frame_allowed : List ℕ → Bool
 frame_allowed e =
     every (leb (target e) highest_dlc ∷ not (bit (value e) 29) ∷ (bit (value e) 31 || eqb (value e % 2 ^ 18) 0) ∷ [])
-
--- Document 02, h), loop-back: the frame that mailbox n holds. All eight data bytes are taken: filing asks for no more of them than the
--- DLC says, and filtering for none.
-unfoldable pub frame_at : List ℕ → ℕ → Frame
-frame_at s n =
-    record { ide = ide (mailbox_word s n 0); rtr = rtr (mailbox_word s n 1); id = identifier_of (mailbox_word s n 0); dlc = dlc (mailbox_word s n 1); bytes = data_of (mailbox s n) }
 
 -- An event whose word and data bytes are zero, and its value one byte: single steps and runs are written out with it.
 abbrev pub plain_event : ℕ → ℕ → ℕ → List ℕ

@@ -1,6 +1,6 @@
 // Frame events.
-ghost use Rattle.std.specs.Prelude.{◌≡◌, false, ◌&&◌, ◌+◌, ◌*◌, ◌<◌, ◌≤◌, length};
-ghost use Rattle.events.specs.Parts.{event_bytes, frame_of, frame_allowed, frame_at};
+ghost use Rattle.std.specs.Prelude.{◌≡◌, false, ◌&&◌, length};
+ghost use Rattle.events.specs.Parts.{event_bytes, frame_of, frame_allowed};
 ghost use Rattle.events.specs.Decode.{quiet_as, allowed_as, decoded_as, frame_refusal};
 
 use crate::parts::{payload, quiet, target, value};
@@ -63,20 +63,4 @@ pub fn frame_refusal(e: &[u8]) -> u32
         return 2;
     }
     if is_frame_taken(e) { 0 } else { 4 }
-}
-
-// The frame that mailbox n holds.
-pub fn frame_at(s: &[u8], n: usize) -> Frame
-    requires { (16 * n + 16 ≤ length s.now) × (n < 32) }
-    ensures { result ≡ frame_at s.now n }
-{
-    let w = mailboxes::word(s, n, 0);
-    let control = mailboxes::word(s, n, 1);
-    Frame {
-        ide: bits::test(w, 31),
-        rtr: bits::test(control, 4),
-        id: mailboxes::identifier_of(w),
-        dlc: control % 16,
-        bytes: mailboxes::data_at(s, n),
-    }
 }

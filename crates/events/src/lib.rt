@@ -5,14 +5,14 @@ mod frames;
 mod parts;
 mod writes;
 
-ghost use Rattle.std.specs.Prelude.{◌≡◌, true, false, cond, ◌&&◌, leb, length};
-ghost use Rattle.events.specs.Parts.{event_bytes, value as value_of, quiet as quiet_of};
+ghost use Rattle.std.specs.Prelude.{◌≡◌, false, cond, length};
+ghost use Rattle.events.specs.Parts.{event_bytes, quiet as quiet_of};
 ghost use Rattle.events.specs.Decode.{decoded_as, decoded};
 
 use crate::frames::frame_event;
 use crate::parts::{quiet, target, value};
 use crate::writes::{mailbox_event, options_event, register_event};
-pub use frames::{frame_at, frame_of, frame_refusal};
+pub use frames::{frame_of, frame_refusal};
 use mailboxes::Identifier;
 
 // One frame, in numbers: its data bytes as one of 64 bits, the first lowest.
@@ -39,7 +39,6 @@ pub enum Event {
     Mode { value: u32 },
     Options { value: u32 },
     Reset,
-    Tests { value: u32 },
 }
 
 // The event, or refusal 4 where it is not allowed.
@@ -77,12 +76,16 @@ fn receive_error_event(asleep: bool, e: &[u8]) -> Event
     )
 }
 
-// An operation whose value, 0 to 3, is all that it uses: modes, options, test modes.
-fn choice_event(e: &[u8], event: Event) -> Event
+// Operation 8.
+fn mode_event(asleep: bool, e: &[u8]) -> Event
     requires { length e.now ≡ event_bytes }
-    ensures { result ≡ cond (quiet_of e.now false false true 0 && leb (value_of e.now) 3) event (Event.Refused 4) }
+    ensures { result ≡ decoded_as 8 asleep false e.now }
 {
-    judged(quiet(e, false, false, true, 0) & (value(e) <= 3), event)
+    let v = value(e);
+    judged(
+        quiet(e, false, false, true, 0) & (v <= 3),
+        Event::Mode { value: v },
+    )
 }
 
 // An operation that uses no byte but its own.
@@ -110,10 +113,9 @@ pub fn decode(asleep: bool, ecan: bool, e: &[u8]) -> Event
         5 => receive_error_event(asleep, e),
         6 => plain_event(e, Event::Recessive),
         7 => plain_event(e, Event::Tick),
-        8 => choice_event(e, Event::Mode { value: value(e) }),
+        8 => mode_event(asleep, e),
         9 => options_event(asleep, e),
         10 => plain_event(e, Event::Reset),
-        11 => choice_event(e, Event::Tests { value: value(e) }),
         _ => Event::Refused { number: 2 },
     }
 }

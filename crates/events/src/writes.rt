@@ -3,13 +3,13 @@ ghost use Rattle.std.specs.Prelude.{◌≡◌, false, length};
 ghost use Rattle.events.specs.Parts.{event_bytes};
 ghost use Rattle.events.specs.Decode.{writable, register_allowed, decoded_as};
 
+use crate::Event;
 use crate::parts::{quiet, target, value};
-use crate::{Event, choice_event};
 
 fn is_writable(t: u32) -> bool
     ensures { result ≡ writable t }
 {
-    ((t <= 19) & !(t == 7) & !(t == 10)) | (t == 33) | ((64 <= t) & (t <= 96))
+    ((t <= 19) & !(t == 7) & !(t == 10)) | ((64 <= t) & (t <= 96))
 }
 
 // May register t be written with v?
@@ -22,7 +22,7 @@ fn is_register_allowed(ecan: bool, t: u32, v: u32) -> bool
     if t == 11 {
         return ecan | (v < 0x8000_0000);
     }
-    if (t == 15) | (t == 16) | (t == 33) {
+    if (t == 15) | (t == 16) {
         return v < 256;
     }
     if (t == 17) | (t == 18) {
@@ -85,8 +85,12 @@ pub fn options_event(asleep: bool, e: &[u8]) -> Event
     requires { length e.now ≡ event_bytes }
     ensures { result ≡ decoded_as 9 asleep false e.now }
 {
+    let v = value(e);
     if asleep {
         return Event::Refused { number: 3 };
     }
-    choice_event(e, Event::Options { value: value(e) })
+    if !(quiet(e, false, false, true, 0) & (v <= 3)) {
+        return Event::Refused { number: 4 };
+    }
+    Event::Options { value: v }
 }

@@ -9,7 +9,6 @@ use lib.Dec.{eqb, ltb}
 use borrow.Author.Tests.{eqb-true, eq-eqb, ne_eqb, ltb-true, ltb-false, le-ltb}
 use Rattle.bits.specs.Bit.{bit, Highest}
 use Rattle.bits.proofs.Laws.{bit-zero, bit_high, same_bits}
-use Rattle.bits.proofs.Tests.{neither}
 use Rattle.words.specs.Word.{words_of}
 use Rattle.registers.specs.Block.{block_of}
 use Rattle.mailboxes.specs.Mailbox.{mailbox_word}
@@ -36,6 +35,10 @@ is_passed why = number why is 7
 
 abbrev agrees : Reason → Bool
 agrees why = is_matched why || is_passed why
+
+neither : (a b : Bool) → (a || b) ≡ false → (a ≡ false) × (b ≡ false)
+neither false b h = (refl, h)
+neither true b h = absurd (false≢true (sym h))
 
 module _ (q : Bool) (p : ℕ → Bool) where
   -- none differs

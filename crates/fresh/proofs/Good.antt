@@ -43,7 +43,7 @@ zero-layout j = rw (zero_word (16 * j + 4 * 0), zero_word (16 * j + 4 * 1))
 zero-spare : good_spare zero_image ≡ true
 unfolding good_spare
 zero-spare =
-    rw (zero_word (registers_at + 4 * 29), zero_word (registers_at + 4 * 30), zero_word (registers_at + 4 * 31))
+    rw (zero_word (registers_at + 4 * 28), zero_word (registers_at + 4 * 29), zero_word (registers_at + 4 * 30), zero_word (registers_at + 4 * 31))
 
 zero-mask : (n : ℕ) → good_mask zero_image n ≡ true
 zero-mask n = rw (zero_word (masks_at + 4 * n))

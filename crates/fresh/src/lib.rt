@@ -42,7 +42,6 @@ pub fn fresh_block(profile: u32) -> Block
         recovery: 0,
         options: 0,
         tso: 0,
-        tests: 0,
         protection: 0,
         profile,
     }

@@ -17,7 +17,7 @@ use Rattle.registers.specs.Block.{normal, sleep, no_mode, empty_slot, bus_off_at
 use Rattle.registers.specs.Status.{filled, ecan, asleep, bus_off}
 use Rattle.registers.specs.Writes.{slot_mask}
 use Rattle.registers.proofs.Laws.{Small}
-use Rattle.good.specs.Good.{last_receives, flags_of_pending, mask_gaps, ranges, states, slot_asks, sleep_asks, waits_for_reason, flag_clauses, number_clauses, slot_clauses, good_tests, good_flags, good_numbers, good_slot, good_block}
+use Rattle.good.specs.Good.{last_receives, flags_of_pending, mask_gaps, ranges, states, slot_asks, sleep_asks, waits_for_reason, flag_clauses, number_clauses, slot_clauses, good_flags, good_numbers, good_slot, good_block}
 
 not_eqb : (n k : ℕ) → n ≢ k → not (eqb n k) ≡ true
 not_eqb n k h = rw (ne_eqb n k h)
@@ -50,7 +50,7 @@ pub record Senders (k s r t a c m : ℕ) : Type 0 where
   pub cdr : c < 2 ^ k
   pub mbtif : m < 2 ^ k
 
-pub record Ranges (gf gm b1 b2 ts te re mo sl rc op to tm pr : ℕ) : Type 0 where
+pub record Ranges (gf gm b1 b2 ts te re mo sl rc op to pr : ℕ) : Type 0 where
   pub gif : gf < 256
   pub gim : gm < 256
   pub bcr1 : b1 < 1024
@@ -63,7 +63,6 @@ pub record Ranges (gf gm b1 b2 ts te re mo sl rc op to tm pr : ℕ) : Type 0 whe
   pub recovery : rc ≤ 127
   pub options : op ≤ 3
   pub tso : to ≤ 1
-  pub tests : tm ≤ 3
   pub profile : pr ≤ e_can
 
 pub record Sending (mo te s m n : ℕ) : Type 0 where
@@ -90,7 +89,7 @@ pub record Core (b : Block) : Type 0 where
   pub rfp : Within b.rfp b.rmp
   pub lam : b.lam / 2 ^ 29 % 4 ≡ 0
   pub gam : b.gam / 2 ^ 29 % 4 ≡ 0
-  pub ranges : Ranges b.gif b.gim b.bcr1 b.bcr2 b.tsc b.tec b.rec b.mode b.slot b.recovery b.options b.tso b.tests b.profile
+  pub ranges : Ranges b.gif b.gim b.bcr1 b.bcr2 b.tsc b.tec b.rec b.mode b.slot b.recovery b.options b.tso b.profile
   pub slotted : b.slot ≢ empty_slot → Sending b.mode b.tec b.trs b.mc b.slot
   pub off : b.tec ≡ bus_off_at → b.mode ≡ normal
   pub recovering : 0 < b.recovery → b.tec ≡ bus_off_at
@@ -118,7 +117,8 @@ unfolding good_numbers
 slot-fits b h = leb-true b.slot empty_slot (all (states b) (all (number_clauses b) h).1.0).1.1.0
 
 -- a slot that is neither a mailbox's number nor empty: not good, so the clauses that read a bit there need not be tried
-pub slot_too_high : (b : Block) → empty_slot < b.slot → every (good_flags b ∷ good_numbers b ∷ good_slot b ∷ []) ≡ false
+pub slot_too_high : (b : Block) → empty_slot < b.slot → good_block b ≡ false
+unfolding good_block
 slot_too_high b h = off (good_flags b) (good_numbers b) (good_slot b) (λ p. let l = slot-fits b p in absurd (omega arith))
   where
     off : (x y z : Bool) → (y ≡ true → false ≡ true) → (x && y && z) ≡ false
@@ -128,7 +128,7 @@ slot_too_high b h = off (good_flags b) (good_numbers b) (good_slot b) (λ p. let
 
 pub slot_below : (b : Block) → good_block b ≡ true → b.slot ≤ empty_slot
 unfolding good_block
-slot_below b h = slot-fits b (all (good_tests b ∷ good_flags b ∷ good_numbers b ∷ good_slot b ∷ []) h).1.1.0
+slot_below b h = slot-fits b (all (good_flags b ∷ good_numbers b ∷ good_slot b ∷ []) h).1.0
 
 -- the flag word of a filled slot has the slot's own bit, so that a word has it exactly where it has all of the flag word
 pub slot-up : (b : Block) → b.slot ≢ empty_slot → bit (slot_mask b) b.slot ≡ true
@@ -142,21 +142,21 @@ can_b_lem : (b : Block) → b.profile ≤ e_can → ecan b ≡ false → b.profi
 can_b_lem b l p = let n = eqb-false b.profile e_can p in omega arith
 
 module _ (b : Block) (fit : Small b) (h : good_block b ≡ true) where
-  groups : All (good_tests b ∷ good_flags b ∷ good_numbers b ∷ good_slot b ∷ [])
+  groups : All (good_flags b ∷ good_numbers b ∷ good_slot b ∷ [])
   unfolding good_block
-  groups = all (good_tests b ∷ good_flags b ∷ good_numbers b ∷ good_slot b ∷ []) h
+  groups = all (good_flags b ∷ good_numbers b ∷ good_slot b ∷ []) h
 
   flags : All (flag_clauses b)
   unfolding good_flags
-  flags = all (flag_clauses b) groups.1.0
+  flags = all (flag_clauses b) groups.0
 
   numbers : All (number_clauses b)
   unfolding good_numbers
-  numbers = all (number_clauses b) groups.1.1.0
+  numbers = all (number_clauses b) groups.1.0
 
   slots : All (slot_clauses b)
   unfolding good_slot
-  slots = all (slot_clauses b) groups.1.1.1.0
+  slots = all (slot_clauses b) groups.1.1.0
 
   last_receives_lem : ecan b ≡ false → All (last_receives b)
   last_receives_lem p = all (last_receives b) (or_right (ecan b) (every (last_receives b)) flags.0 p)
@@ -193,7 +193,7 @@ module _ (b : Block) (fit : Small b) (h : good_block b ≡ true) where
         mbtif = below b.mbtif (fit 12 (lit< tt)) (λ p. ltb-true _ _ (last_receives_lem p).1.1.1.1.1.1.1.0);
       }
 
-  in_range : Ranges b.gif b.gim b.bcr1 b.bcr2 b.tsc b.tec b.rec b.mode b.slot b.recovery b.options b.tso b.tests b.profile
+  in_range : Ranges b.gif b.gim b.bcr1 b.bcr2 b.tsc b.tec b.rec b.mode b.slot b.recovery b.options b.tso b.profile
   in_range =
       let r = all (ranges b) numbers.0 in
       let s = all (states b) numbers.1.0 in
@@ -210,7 +210,6 @@ module _ (b : Block) (fit : Small b) (h : good_block b ≡ true) where
         recovery = leb-true _ _ s.1.1.1.0;
         options = leb-true _ _ s.1.1.1.1.0;
         tso = leb-true _ _ s.1.1.1.1.1.0;
-        tests = leb-true _ _ groups.0;
         profile = kind;
       }
 
@@ -249,7 +248,7 @@ module _ (b : Block) (fit : Small b) (h : good_block b ≡ true) where
             gam = fit 9 (lit< tt);
             mbrif = fit 13 (lit< tt);
             mbim = fit 14 (lit< tt);
-            protection = fit 29 (lit< tt);
+            protection = fit 28 (lit< tt);
           };
           md31 = λ e. leb-true _ _ (last_receives_lem (ne_eqb b.profile e_can (λ q. omega arith))).1.0;
           low = can_send;
@@ -362,7 +361,7 @@ module _ (b : Block) (g : GoodBlock b) where
 
   pub block_good : good_block b ≡ true
   unfolding good_block
-  block_good = holds (good_tests b ∷ good_flags b ∷ good_numbers b ∷ good_slot b ∷ []) (le-leb _ _ g.core.ranges.tests, (flags_hold, (numbers_hold, (slot_holds, tt))))
+  block_good = holds (good_flags b ∷ good_numbers b ∷ good_slot b ∷ []) (flags_hold, (numbers_hold, (slot_holds, tt)))
 
 -- ---- a CAN-B never has mailbox 31 in its slot: it would need a request there
 

@@ -61,7 +61,7 @@ pub words_fit : (s : List ℕ) → Bytes s → Small (block_of s)
 unfolding block_of words_of
 words_fit s h =
     fit_at (to_words (block_of s))
-    (word_lt s h 512, (word_lt s h 516, (word_lt s h 520, (word_lt s h 524, (word_lt s h 528, (word_lt s h 532, (word_lt s h 536, (word_lt s h 540, (word_lt s h 544, (word_lt s h 548, (word_lt s h 552, (word_lt s h 556, (word_lt s h 560, (word_lt s h 564, (word_lt s h 568, (word_lt s h 572, (word_lt s h 576, (word_lt s h 580, (word_lt s h 584, (word_lt s h 588, (word_lt s h 592, (word_lt s h 596, (word_lt s h 600, (word_lt s h 604, (word_lt s h 608, (word_lt s h 612, (word_lt s h 616, (word_lt s h 620, (word_lt s h 624, (word_lt s h 768, (word_lt s h 772, tt)))))))))))))))))))))))))))))))
+    (word_lt s h 512, (word_lt s h 516, (word_lt s h 520, (word_lt s h 524, (word_lt s h 528, (word_lt s h 532, (word_lt s h 536, (word_lt s h 540, (word_lt s h 544, (word_lt s h 548, (word_lt s h 552, (word_lt s h 556, (word_lt s h 560, (word_lt s h 564, (word_lt s h 568, (word_lt s h 572, (word_lt s h 576, (word_lt s h 580, (word_lt s h 584, (word_lt s h 588, (word_lt s h 592, (word_lt s h 596, (word_lt s h 600, (word_lt s h 604, (word_lt s h 608, (word_lt s h 612, (word_lt s h 616, (word_lt s h 620, (word_lt s h 768, (word_lt s h 772, tt))))))))))))))))))))))))))))))
 
 pub good_length : (s : List ℕ) → good_image s ≡ true → length s ≡ image_bytes
 unfolding good_image
@@ -105,7 +105,7 @@ small b g most =
     let q = within_le g.rfp in
     let n = wide_sender b g in
     fit_at (to_words b)
-    (w.mc, (w.md, (n b.trs l.trs, (n b.trr l.trr, (n b.ta l.ta, (n b.aa l.aa, (w.rmp, (omega (arith, w.rmp, p), (w.lam, (w.gam, (omega (arith, w.rmp, q), (n b.cdr l.cdr, (n b.mbtif l.mbtif, (w.mbrif, (w.mbim, (omega (arith, r.gif), (omega (arith, r.gim), (omega (arith, r.bcr1), (omega (arith, r.bcr2), (omega (arith, r.tsc), (omega (arith, r.tec), (omega (arith, r.rec), (omega (arith, r.mode), (omega arith, (omega (arith, r.slot), (omega (arith, r.recovery), (omega (arith, r.options), (omega (arith, r.tso), (omega (arith, r.tests), (w.protection, (omega (arith, r.profile), tt)))))))))))))))))))))))))))))))
+    (w.mc, (w.md, (n b.trs l.trs, (n b.trr l.trr, (n b.ta l.ta, (n b.aa l.aa, (w.rmp, (omega (arith, w.rmp, p), (w.lam, (w.gam, (omega (arith, w.rmp, q), (n b.cdr l.cdr, (n b.mbtif l.mbtif, (w.mbrif, (w.mbim, (omega (arith, r.gif), (omega (arith, r.gim), (omega (arith, r.bcr1), (omega (arith, r.bcr2), (omega (arith, r.tsc), (omega (arith, r.tec), (omega (arith, r.rec), (omega (arith, r.mode), (omega arith, (omega (arith, r.slot), (omega (arith, r.recovery), (omega (arith, r.options), (omega (arith, r.tso), (w.protection, (omega (arith, r.profile), tt))))))))))))))))))))))))))))))
 
 -- ---- 16 other bytes in the place of a mailbox
 
@@ -147,7 +147,7 @@ module _ (s : List ℕ) (n : ℕ) (m : List ℕ) (g : GoodImage s) (hn : n < mai
         bytes = bytes-with s n m room size g.bytes byte;
         size = length-with s n m room size ∙ g.size;
         layouts = λ j h. layout-there j h (ltb j n) (ltb n j) refl refl;
-        spare = rw (after 628 (lit≤ tt), after 632 (lit≤ tt), after 636 (lit≤ tt)) g.spare;
+        spare = rw (after 624 (lit≤ tt), after 628 (lit≤ tt), after 632 (lit≤ tt), after 636 (lit≤ tt)) g.spare;
         masks = λ j h. rw (after (masks_at + 4 * j) (omega arith)) (g.masks j h);
         block = rw (block_stays s n m g.size hn size) g.block;
       }
@@ -165,7 +165,7 @@ module _ (s : List ℕ) (b : Block) (byte : Bytes s) (size : length s ≡ image_
             λ j h.
             rw (word-stays s b (16 * j + 4 * 0) (omega arith), word-stays s b (16 * j + 4 * 1) (omega arith)) (layouts j h);
         spare =
-            rw (spare-stays s b 29 (lit≤ tt) (lit< tt), spare-stays s b 30 (lit≤ tt) (lit< tt), spare-stays s b 31 (lit≤ tt) (lit< tt))
+            rw (spare-stays s b 28 (lit≤ tt) (lit< tt), spare-stays s b 29 (lit≤ tt) (lit< tt), spare-stays s b 30 (lit≤ tt) (lit< tt), spare-stays s b 31 (lit≤ tt) (lit< tt))
             spare;
         masks = λ j h. rw (mask-stays s b j h) (masks j h);
         block = rw (block_back s b size (small b ok.core ok.waits.most)) ok;

@@ -46,7 +46,7 @@ module _ (s : List ℕ) (n v : ℕ) (hn : n < mailboxes) where
         size = length-put s to v ∙ g.size;
         layouts =
             λ j h. rw (before (16 * j + 4 * 0) (omega arith), before (16 * j + 4 * 1) (omega arith)) (g.layouts j h);
-        spare = rw (before 628 (omega arith), before 632 (omega arith), before 636 (omega arith)) g.spare;
+        spare = rw (before 624 (omega arith), before 628 (omega arith), before 632 (omega arith), before 636 (omega arith)) g.spare;
         masks = λ j h. there j h (ℕ_discrete j n);
         block = rw mask_beside g.block;
       }

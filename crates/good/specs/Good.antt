@@ -1,5 +1,5 @@
 -- What makes an image good: one named clause for each thing that document 01 asks under "The image", in its order, but for the DLC, of
--- which by document 02, c), nothing is asked, and for word 28, which by h) has the test modes.
+-- which by document 02, c), nothing is asked.
 use Rattle.std.specs.Prelude.{ℕ, ◌+◌, ◌*◌, Bool, not, ◌&&◌, ◌||◌, List, [], ◌∷◌, eqb, ltb, leb, length}
 use Rattle.bits.specs.Below.{all_below}
 use Rattle.bits.specs.Tests.{every, implies, within, apart, top_down, top_up, gap_down}
@@ -91,7 +91,7 @@ sleep_asks b = eqb b.tec 0 ∷ eqb b.rec 0 ∷ eqb b.trs 0 ∷ eqb b.trr 0 ∷ [
 abbrev pub sleep_needs : Block → Bool
 sleep_needs b = implies (asleep b) (every (sleep_asks b))
 
--- ---- the clauses together, in four groups
+-- ---- the clauses together, in three groups
 
 abbrev pub flag_clauses : Block → List Bool
 flag_clauses b =
@@ -124,12 +124,8 @@ good_numbers b = every (number_clauses b)
 unfoldable pub good_slot : Block → Bool
 good_slot b = every (slot_clauses b)
 
--- The image, good image; document 02, h): word 28 is two bits, one for each test mode.
-abbrev pub good_tests : Block → Bool
-good_tests b = leb b.tests 3
-
 unfoldable pub good_block : Block → Bool
-good_block b = every (good_tests b ∷ good_flags b ∷ good_numbers b ∷ good_slot b ∷ [])
+good_block b = every (good_flags b ∷ good_numbers b ∷ good_slot b ∷ [])
 
 -- ---- the whole image
 
@@ -137,10 +133,11 @@ good_block b = every (good_tests b ∷ good_flags b ∷ good_numbers b ∷ good_
 unfoldable pub good_layouts : List ℕ → Bool
 good_layouts s = all_below (layout s) mailboxes
 
--- The image; document 02, h): the spare words, from 29 on, are zero.
+-- The image: the four spare words, from 28 on, are zero.
 abbrev pub spare_words : List ℕ → List Bool
 spare_words s =
-    eqb (word_at s (registers_at + 4 * 29)) 0
+    eqb (word_at s (registers_at + 4 * 28)) 0
+    ∷ eqb (word_at s (registers_at + 4 * 29)) 0
     ∷ eqb (word_at s (registers_at + 4 * 30)) 0
     ∷ eqb (word_at s (registers_at + 4 * 31)) 0
     ∷ []

@@ -1,12 +1,11 @@
 // Is an image good?
 #![tactic(auto)]
 
-ghost use Rattle.std.specs.Prelude.{◌≡◌, ◌&&◌, [], ◌∷◌, eqb, ltb, leb, ◌+◌, ◌<◌, ◌≤◌, length};
+ghost use Rattle.std.specs.Prelude.{◌≡◌, ◌&&◌, eqb, ltb, ◌+◌, ◌<◌, ◌≤◌, length};
 ghost use Rattle.words.specs.Word.{word_at};
-ghost use Rattle.registers.specs.Block.{image_bytes, block_of, empty_slot};
-ghost use Rattle.bits.specs.Tests.{every};
+ghost use Rattle.registers.specs.Block.{image_bytes, empty_slot};
 ghost use Rattle.mailboxes.specs.Mailbox.{layout, word_layout};
-ghost use Rattle.good.specs.Good.{good_tests, good_flags, good_numbers, good_slot, good_layouts, good_spare, good_masks, good_image};
+ghost use Rattle.good.specs.Good.{good_flags, good_numbers, good_slot, good_block, good_layouts, good_spare, good_masks, good_image};
 ghost use Rattle.good.specs.Gathered.{clean, Stretch, bare, good_pair};
 
 use registers::{Block, CAN_B, E_CAN, EMPTY_SLOT};
@@ -66,9 +65,9 @@ fn good_slot(b: Block) -> bool
             | ((b.mode == 0) & (b.tec < 256) & (x & b.trs == x) & (x & b.mc == x)))
 }
 
-// Every clause on the register block but that on the test modes, which are judged with the spare words (good_tail).
+// Every clause on the register block.
 fn good_block(b: Block) -> bool
-    ensures { result ≡ every (good_flags b ∷ good_numbers b ∷ good_slot b ∷ []) }
+    ensures { result ≡ good_block b }
 {
     if b.slot > EMPTY_SLOT {
         return false;
@@ -156,24 +155,23 @@ fn good_layouts(s: &[u8]) -> bool
     }
 }
 
-// Is a word at most this, and the next one zero? They are read as one number.
-fn is_low(s: &[u8], at: usize, most: u32) -> bool
+// Are two words in a row zero? They are read as one number.
+fn are_zero(s: &[u8], at: usize) -> bool
     requires { (length s.now ≡ image_bytes) × (at + 8 ≤ image_bytes) }
-    ensures { result ≡ (leb (word_at s.now at) most && eqb (word_at s.now (at + 4)) 0) }
+    ensures { result ≡ (eqb (word_at s.now at) 0 && eqb (word_at s.now (at + 4)) 0) }
 {
-    words::word_at(s, at) as u64 + 4294967296 * (words::word_at(s, at + 4) as u64) <= most as u64
+    words::word_at(s, at) as u64 + 4294967296 * (words::word_at(s, at + 4) as u64) == 0
 }
 
-// The last register words, 28 to 31: the test modes and the three spare ones, by pairs. Of tests without a branch LLVM makes one of vectors,
-// which costs more.
-fn good_tail(s: &[u8]) -> bool
+// The four spare words. Of four tests without a branch LLVM makes one of vectors, which costs more.
+fn good_spare(s: &[u8]) -> bool
     requires { length s.now ≡ image_bytes }
-    ensures { result ≡ (good_tests (block_of s.now) && good_spare s.now) }
+    ensures { result ≡ good_spare s.now }
 {
-    if !is_low(s, 624, 3) {
+    if !are_zero(s, 624) {
         return false;
     }
-    is_low(s, 632, 0)
+    are_zero(s, 632)
 }
 
 // The masks of two mailboxes as one number; `|` of such numbers has bits 30 and 29 of a mask where one of them has. Of the 16 pairs
@@ -237,5 +235,5 @@ pub fn good_image(s: &[u8]) -> bool
     if s.len() != registers::IMAGE_BYTES {
         return false;
     }
-    good_layouts(s) & good_tail(s) & good_masks(s) & good_block(Block::load(s))
+    good_layouts(s) & good_spare(s) & good_masks(s) & good_block(Block::load(s))
 }

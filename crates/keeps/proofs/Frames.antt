@@ -1,7 +1,7 @@
 -- Frames: heard, stored, asking for a reply.
 use Prim.Native.Nat.{ℕ, ◌^◌, ◌<◌, ◌≤◌}
 use mathlib.Core.Path.{◌≡◌, refl}
-use mathlib.Core.Bool.{Bool, false, cond}
+use mathlib.Core.Bool.{Bool, true, false, cond}
 use mathlib.Core.Logic.{◌≢◌}
 use native.Mathlib.Omega.{arith}
 use lib.Dec.{ltb, lit<, lit≤}
@@ -11,13 +11,14 @@ use Rattle.bits.specs.Bit.{bit, mask}
 use Rattle.bits.proofs.Sets.{Within, within_trans, within-or, and-within_l, or-within_l, or-within_r, without-within, apart-or, apart-mask, and_lt_l}
 use Rattle.registers.specs.declared.Block.{Block}
 use Rattle.registers.specs.Block.{with_mode, normal, sleep}
+use Rattle.registers.specs.Modes.{on_bus}
 use Rattle.registers.specs.Frames.{fallen, wakened, listened, stored, replied}
-use Rattle.good.proofs.Facts.{senders, Core}
+use Rattle.good.proofs.Facts.{senders, Core, GoodBlock}
 use Rattle.keeps.proofs.Words.{either, gif_lt}
 use Rattle.keeps.proofs.Slot.{sends_low}
 use Rattle.keeps.proofs.Keep.{keep_trs, keep_rmp, keep_rml, keep_rfp, keep_mbrif, keep_gif, keep_mode}
-use Rattle.keeps.proofs.Open.{Open}
-use Rattle.keeps.proofs.Modes.{rec_core}
+use Rattle.keeps.proofs.Open.{Open, still_open}
+use Rattle.keeps.proofs.Modes.{bus_mode, rec_core}
 
 fallen_le : (r : ℕ) → r ≤ 255 → fallen r ≤ 255
 fallen_le r h = either (λ x. x ≤ 255) (ltb 127 r) (λ e. lit≤ tt) (λ e. omega arith)
@@ -29,23 +30,20 @@ woken_core {c} k t =
     (λ e. keep_mode k normal (lit≤ tt) (λ n. refl) (λ n. refl) (λ s. absurd (omega arith)))
     (λ e. k)
 
-pub listened_open : {b : Block} → Open b → Open (listened b)
+pub listened_open : {b : Block} → GoodBlock b → Open (listened b)
 unfolding listened
-listened_open {b} i =
-    let k = i.core in
-    record {
-      core =
-          keep_gif
-          (woken_core (rec_core k (fallen b.rec) (fallen_le b.rec k.ranges.rec)) (wakened b))
-          _ (gif_lt (wakened b) 6 k.ranges.gif (lit< tt));
-      most = i.most;
-      zero = i.zero;
-    }
+listened_open {b} g =
+    let k = g.core in
+    still_open g refl
+    (keep_gif
+    (woken_core (rec_core k (fallen b.rec) (fallen_le b.rec k.ranges.rec)) (wakened b))
+    _ (gif_lt (wakened b) 6 k.ranges.gif (lit< tt)))
 
 -- a frame that is heard finds the unit in normal mode
-pub listened-awake : (b : Block) → b.mode ≡ normal → (listened b).mode ≢ sleep
+pub listened-awake : (b : Block) → on_bus b ≡ true → (listened b).mode ≢ sleep
 unfolding listened
-listened-awake b n =
+listened-awake b on =
+    let n = bus_mode b on in
     either (λ m. m ≢ sleep) (wakened b) (λ e s. absurd (omega arith)) (λ e s. absurd (omega arith))
 
 pub stored_open : {b : Block} → Open b → (n : ℕ) → n < 32 → (rtr : Bool) → Open (stored b n rtr)

@@ -9,7 +9,7 @@ use lib.Dec.{eqb}
 use Rattle.bits.specs.Bit.{bit, flag}
 use Rattle.bits.proofs.Sets.{Within, Apart, within_le}
 use Rattle.registers.specs.declared.Block.{Block}
-use Rattle.registers.specs.Block.{with_mc, with_md, with_trs, with_trr, with_ta, with_aa, with_rmp, with_rml, with_lam, with_gam, with_rfp, with_cdr, with_mbtif, with_mbrif, with_mbim, with_gif, with_gim, with_bcr1, with_bcr2, with_tsc, with_tec, with_rec, with_mode, with_waiting, with_slot, with_recovery, with_options, with_tso, with_tests, with_protection, normal, sleep, empty_slot, bus_off_at, can_b}
+use Rattle.registers.specs.Block.{with_mc, with_md, with_trs, with_trr, with_ta, with_aa, with_rmp, with_rml, with_lam, with_gam, with_rfp, with_cdr, with_mbtif, with_mbrif, with_mbim, with_gif, with_gim, with_bcr1, with_bcr2, with_tsc, with_tec, with_rec, with_mode, with_waiting, with_slot, with_recovery, with_options, with_tso, with_protection, normal, sleep, empty_slot, bus_off_at, can_b}
 use Rattle.registers.specs.Writes.{slot_mask}
 use Rattle.good.proofs.Facts.{senders, Core, Sending, Sleeping}
 
@@ -63,9 +63,6 @@ module _ {b : Block} (g : Core b) (v : ℕ) where
 
   pub keep_tso : v ≤ 1 → Core (with_tso b v)
   keep_tso h = search
-
-  pub keep_tests : v ≤ 3 → Core (with_tests b v)
-  keep_tests h = search
 
   -- its clause is not one of the core
   pub keep_waiting : Core (with_waiting b v)

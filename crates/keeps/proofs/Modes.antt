@@ -13,10 +13,10 @@ use Rattle.registers.specs.Block.{with_rec, normal, empty_slot, bus_off_at, e_ca
 use Rattle.fresh.specs.Fresh.{fresh_block}
 use Rattle.fresh.proofs.Good.{fresh_block_lem}
 use Rattle.registers.specs.Status.{asleep, bus_off}
-use Rattle.registers.specs.Modes.{at_most, on_bus, overflows, ticked, worsened, recessive, optioned, tested, asked}
+use Rattle.registers.specs.Modes.{at_most, on_bus, overflows, ticked, worsened, recessive, optioned, asked}
 use Rattle.good.proofs.Facts.{Core, GoodBlock}
 use Rattle.keeps.proofs.Words.{either, gif_lt}
-use Rattle.keeps.proofs.Keep.{keep_gif, keep_tsc, keep_tec, keep_rec, keep_waiting, keep_recovery, keep_options, keep_tso, keep_tests}
+use Rattle.keeps.proofs.Keep.{keep_gif, keep_tsc, keep_tec, keep_rec, keep_waiting, keep_recovery, keep_options, keep_tso}
 use Rattle.keeps.proofs.Open.{Open, still_open, good_open}
 
 -- ---- ticks and options
@@ -34,9 +34,6 @@ ticked_open {b} g =
 
 pub optioned_open : {b : Block} → GoodBlock b → (v : ℕ) → v ≤ 3 → Open (optioned b v)
 optioned_open g v h = still_open g refl (keep_options g.core v h)
-
-pub tested_open : {b : Block} → GoodBlock b → (v : ℕ) → v ≤ 3 → Open (tested b v)
-tested_open g v h = still_open g refl (keep_tests g.core v h)
 
 -- ---- counters
 

@@ -5,25 +5,24 @@ use mathlib.Core.Bool.{Bool, true, false, not, ◌&&◌, ◌||◌, cond}
 use mathlib.Core.Logic.{◌≢◌}
 use native.Mathlib.Omega.{arith}
 use native.Mathlib.Nat.{lt_of_le_of_lt}
-use lib.Dec.{eqb, ltb, lit<, lit≤}
+use lib.Dec.{eqb, lit<, lit≤}
 use lib.Bits.{bit_and, bit_or, or_lt}
-use borrow.Author.Tests.{eqb-true, eqb-false, ltb-true, not-false, ne_eqb}
+use borrow.Author.Tests.{eqb-true, ltb-true, not-false, ne_eqb}
 use Rattle.bits.specs.Bit.{bit, mask, without}
 use Rattle.bits.specs.Tests.{top_down}
 use Rattle.bits.proofs.Laws.{bit-without}
-use Rattle.bits.proofs.Tests.{neither}
 use Rattle.bits.proofs.Sets.{Within, Apart, word-apart, within_le, within_trans, within-or, and-within_l, and-within_r, or-within_l, or-within_r, without-within, within-without, apart_less, apart-or, apart-without, apart_sym, apart-changed, without_lt}
 use Rattle.registers.specs.declared.Block.{Block}
-use Rattle.registers.specs.Block.{with_mc, with_protection, sleep, bus_off_at, can_b, e_can}
-use Rattle.registers.specs.Status.{ecan, tests_errors, bus_off}
-use Rattle.registers.specs.Writes.{slot_mask, ending, late, protection_number, counters_number, counting, direction, directed, requested, cancelled, released, noted, writes, written}
+use Rattle.registers.specs.Block.{with_mc, with_protection, sleep, can_b, e_can}
+use Rattle.registers.specs.Status.{ecan}
+use Rattle.registers.specs.Writes.{slot_mask, ending, late, protection_number, direction, directed, requested, cancelled, released, noted, writes, written}
 use Rattle.events.specs.Decode.{register_allowed}
-use Rattle.refusals.specs.Refusal.{meet, turned_off, turned_round, register_busy, register_locked, counters_locked, foreign}
+use Rattle.refusals.specs.Refusal.{meet, turned_off, turned_round, register_busy}
 use Rattle.good.proofs.Facts.{senders, slot-up, Core, GoodBlock}
 use Rattle.keeps.proofs.Words.{either, gif_lt, within_spared}
 use Rattle.keeps.proofs.Slot.{slot-trs, sends_low}
 use Rattle.keeps.proofs.Rows.{◌▸◌, Each, row, column, row_same}
-use Rattle.keeps.proofs.Keep.{keep_mc, keep_md, keep_trs, keep_trr, keep_ta, keep_aa, keep_rmp, keep_rml, keep_lam, keep_gam, keep_rfp, keep_cdr, keep_mbtif, keep_mbrif, keep_mbim, keep_gif, keep_gim, keep_bcr1, keep_bcr2, keep_tsc, keep_tec, keep_rec, keep_tso, keep_protection}
+use Rattle.keeps.proofs.Keep.{keep_mc, keep_md, keep_trs, keep_trr, keep_ta, keep_aa, keep_rmp, keep_rml, keep_lam, keep_gam, keep_rfp, keep_cdr, keep_mbtif, keep_mbrif, keep_mbim, keep_gif, keep_gim, keep_bcr1, keep_bcr2, keep_tsc, keep_tso, keep_protection}
 use Rattle.keeps.proofs.Open.{Open, still_open}
 
 -- words that do not meet
@@ -112,21 +111,6 @@ module _ (b : Block) (k : Core b) (v : ℕ) where
       at (suc zero) e = hv
       at (suc (suc p)) e = let l = k.ranges.profile in absurd (omega arith)
 
-  -- register 33: awake and not bus off, so nothing is being recovered
-  counting_core : b.mode ≢ sleep → v < 256 → b.tec ≢ bus_off_at → Core (counting b v)
-  counting_core awake l on =
-      keep_rec
-      (keep_tec k v (omega arith) (λ n. l) (λ e. absurd (omega arith)) (λ r. absurd (on (k.recovering r))) (λ s. absurd (awake s)))
-      v (omega arith) (λ s. absurd (awake s))
-
-  counted_core : (t : ℕ) → t ≡ counters_number → b.mode ≢ sleep → register_allowed (ecan b) t v ≡ true → register_locked b t v ≡ false → Core (counting b v)
-  unfolding register_allowed
-  counted_core t e awake a ok =
-      let l : ltb v 256 ≡ true = rw e at a in
-      let o : (counters_locked b || foreign b counters_number) ≡ false = rw e at ok in
-      counting_core awake (ltb-true v 256 l)
-      (eqb-false _ _ (neither (not (tests_errors b)) (bus_off b) (neither (counters_locked b) (foreign b counters_number) o).0).1)
-
   rows : b.mode ≢ sleep → v < 2 ^ 32 → Each (Accepted b v) (writes b v)
   unfolding register_allowed
   rows awake hv =
@@ -153,32 +137,26 @@ module _ (b : Block) (k : Core b) (v : ℕ) where
       ▸ tt
 
 written_core : (b : Block) (t v : ℕ) → Core b → b.mode ≢ sleep → v < 2 ^ 32 → register_allowed (ecan b) t v ≡ true → register_busy b t v ≡ false
-    → register_locked b t v ≡ false → Core (written b t v)
+    → Core (written b t v)
 unfolding written
-written_core b t v k awake hv a free ok =
-    either Core (eqb t counters_number)
-    (λ e. counted_core b k v t (eqb-true t counters_number e) awake a ok)
-    (λ e.
+written_core b t v k awake hv a free =
     either Core (eqb t protection_number)
     (λ e. keep_protection k v hv)
-    (λ e. row (Accepted b v) (writes b v) b (rows b k v awake hv) (λ n a free. k) t a free))
+    (λ e. row (Accepted b v) (writes b v) b (rows b k v awake hv) (λ n a free. k) t a free)
 
--- what every row of the table and the protection word leave alone, every write does; that of the error counters, where they do too
+-- what every row of the table and the protection word leave alone, every write does
 pub written_leaves : (f : Block → ℕ) (b : Block) (v : ℕ) → column (λ n x. f x) (writes b v) ≡ column (λ n x. f b) (writes b v)
-    → f (with_protection b v) ≡ f b → (t : ℕ) → (t ≡ counters_number → f (counting b v) ≡ f b) → f (written b t v) ≡ f b
+    → f (with_protection b v) ≡ f b → (t : ℕ) → f (written b t v) ≡ f b
 unfolding written
-written_leaves f b v e p t c =
-    either (λ x. f x ≡ f b) (eqb t counters_number)
-    (λ u. c (eqb-true t counters_number u))
-    (λ u.
+written_leaves f b v e p t =
     either (λ x. f x ≡ f b) (eqb t protection_number)
     (λ u. p)
-    (λ u. row_same (λ n x. f x) (λ n x. f b) (writes b v) b e (λ n. refl) t))
+    (λ u. row_same (λ n x. f x) (λ n x. f b) (writes b v) b e (λ n. refl) t)
 
 waiting_stays : (b : Block) (t v : ℕ) → (written b t v).waiting ≡ b.waiting
 unfolding requested cancelled released noted
-waiting_stays b t v = written_leaves (λ x. x.waiting) b v refl refl t (λ u. refl)
+waiting_stays b t v = written_leaves (λ x. x.waiting) b v refl refl t
 
 pub written_open : (b : Block) (t v : ℕ) → GoodBlock b → b.mode ≢ sleep → v < 2 ^ 32 → register_allowed (ecan b) t v ≡ true → register_busy b t v ≡ false
-    → register_locked b t v ≡ false → Open (written b t v)
-written_open b t v g awake hv a free ok = still_open g (waiting_stays b t v) (written_core b t v g.core awake hv a free ok)
+    → Open (written b t v)
+written_open b t v g awake hv a free = still_open g (waiting_stays b t v) (written_core b t v g.core awake hv a free)

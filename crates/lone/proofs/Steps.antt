@@ -44,7 +44,7 @@ module _ (was now : Words) (k : Ending was now) where
 
 module _ (s e : List ℕ) (bytes : Bytes s) (small : Bytes e) where
   pub step-bytes : Bytes (step s e).image
-  step-bytes = stays-or_moves s e bytes small (step s e) (step_meets s e bytes small) Bytes bytes (λ t p. record { small = p.size.1 })
+  step-bytes = stays-or_moves s e bytes small (step s e) (step_meets s e bytes small) Bytes bytes (λ p. record { small = p.size.1 })
 
   -- passive, TEC stays; otherwise it is at most 127 before, and 135 after
   room : (t : Bool) → passive (words s) ≡ t → words s TEC < 256 → cond t (words s TEC) (words s TEC + 8) < 256
@@ -52,7 +52,7 @@ module _ (s e : List ℕ) (bytes : Bytes s) (small : Bytes e) where
   room false e h = let l = ltb-false 127 (words s TEC) (neither _ _ e).0 in omega arith
 
   pub below : words s TEC < 256 → Alone e → words (step s e).image TEC < 256
-  below h a = stays-or_moves s e bytes small (step s e) (step_meets s e bytes small) (λ x. words x TEC < 256) h (λ t. at a)
+  below h a = stays-or_moves s e bytes small (step s e) (step_meets s e bytes small) (λ x. words x TEC < 256) h (at a)
     where
       ends : (p : Accepted s e (step s e)) → p.middle TEC < 256 → words (step s e).image TEC < 256
       ends p l = let k = end_most p.middle (words (step s e).image) p.ending in omega arith

@@ -1,4 +1,4 @@
-// The small writers and a reader: what storing a frame and sending one write into a lent mailbox, and the data bytes of one.
+// The small writers: what storing a frame and sending one write into a lent mailbox.
 ghost use Rattle.std.specs.Prelude.{◌≡◌, ◌+◌, ◌*◌, ◌^◌, ◌<◌, ◌≤◌, length};
 ghost use Rattle.mailboxes.specs.Mailbox.{mailbox, with_mailbox};
 ghost use Rattle.mailboxes.specs.Filing.{highest_dlc, most_data_bytes, data_bytes, filed_identifier, filed_control, data_of, spliced as spliced_of, with_data, filed, stamped};
@@ -52,16 +52,6 @@ fn data_of(m: &[u8]) -> u64
     ensures { result ≡ data_of m.now }
 {
     words::word_at(m, 8) as u64 + 4294967296 * (words::word_at(m, 12) as u64)
-}
-
-// The data bytes of mailbox n: its own part of the image is lent to the reader.
-pub fn data_at(s: &[u8], n: usize) -> u64
-    requires { (16 * n + 16 ≤ length s.now) × (n < 32) }
-    ensures { result ≡ data_of (mailbox s.now n) }
-{
-    let a = 16 * n;
-    let e = a + 16;
-    data_of(&s[a..e])
 }
 
 fn put_data(m: &mut [u8], d: u64)

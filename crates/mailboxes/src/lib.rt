@@ -8,7 +8,7 @@ ghost use Rattle.std.specs.Prelude.{◌≡◌, ◌+◌, ◌*◌, ◌<◌, ◌≤
 ghost use Rattle.words.specs.Word.{put_word};
 ghost use Rattle.mailboxes.specs.Mailbox.{mailbox_word, mailbox, with_mailbox, word_layout};
 
-pub use filing::{HIGHEST_DLC, data_at, data_bytes, put_frame, put_stamp};
+pub use filing::{HIGHEST_DLC, data_bytes, put_frame, put_stamp};
 pub use keys::{identifier_of, key_of, word_of};
 
 // An identifier and an arbitration key: two numbers of 32 bits that are never one another.

@@ -1,10 +1,10 @@
 -- Bytes written into a mailbox, or into the masks, leave the length of the image and its register block.
 use Prim.Native.Nat.{ℕ, ◌+◌, ◌-◌, ◌*◌, ◌<◌, ◌≤◌}
-use mathlib.Core.Path.{◌≡◌, refl, sym, ◌∙◌, subst}
+use mathlib.Core.Path.{◌≡◌, refl, ◌∙◌}
 use mathlib.Core.Bool.{Bool, true, false, cond}
 use mathlib.Core.List.{List}
 use native.Mathlib.Omega.{arith}
-use lib.Dec.{leb}
+use lib.Dec.{eqb, leb}
 use borrow.Author.Tests.{leb-true}
 use Rattle.bits.proofs.Sets.{and_r}
 use Rattle.words.specs.Word.{put_word}
@@ -12,19 +12,15 @@ use Rattle.events.specs.Decode.{is_mask}
 use Rattle.good.proofs.Masked.{mask_beside, zeros_size, zeros_beside}
 use lib.ListN.{length}
 use Rattle.words.proofs.Laws.{length-put}
-use Rattle.registers.specs.Block.{image_bytes, masks_at, block_of, empty_slot}
+use Rattle.registers.specs.Block.{image_bytes, masks_at, block_of}
 use Rattle.mailboxes.specs.declared.Identifier.{Identifier}
 use Rattle.mailboxes.specs.Mailbox.{mailbox, with_mailbox}
 use Rattle.mailboxes.specs.Filing.{filed}
 use Rattle.mailboxes.proofs.Laws.{length-mailbox, length-with}
 use Rattle.mailboxes.proofs.Filed.{length-filed, length-stamped}
 use Rattle.good.proofs.Image.{block_stays}
-use Rattle.registers.specs.declared.Block.{Block}
-use Rattle.events.specs.declared.Frame.{Frame}
-use Rattle.filter.specs.declared.Delivery.{Delivery}
-use Rattle.filter.specs.declared.Delivery.TheVariants.{Into, Reply, Nowhere}
-use Rattle.model.specs.Step.{stowed, masked, unmasked, rewritten, postmarked}
-use Rattle.model.specs.Parts.{Loaded, Housed}
+use Rattle.model.specs.Step.{masked, unmasked, rewritten, postmarked}
+use Rattle.model.specs.Parts.{Loaded}
 
 pub record Beside (s t : List ℕ) : Type 0 where
   pub size : length t ≡ length s
@@ -59,29 +55,13 @@ pub unmasked_beside : (s : List ℕ) → Beside s (unmasked s)
 unfolding unmasked
 unmasked_beside s = record { size = zeros_size 32 0 s; block = zeros_beside 32 0 s (omega arith) }
 
-pub postmarked_beside : (s : List ℕ) (t : Bool) → Loaded s → (t ≡ true → (block_of s).slot < 32) → Beside s (cond t (postmarked s) s)
+pub postmarked_beside : (s : List ℕ) (k : ℕ) → Loaded s → (block_of s).slot < 32 → Beside s (cond (eqb k 0) (postmarked s) s)
 unfolding postmarked
-postmarked_beside s true l filled =
-    beside s (block_of s).slot l.size (filled refl) _
-    (length-stamped (mailbox s (block_of s).slot) (block_of s).tsc
-    ∙ length-mailbox s (block_of s).slot (room s (block_of s).slot l.size (filled refl)))
-postmarked_beside s false l filled = record { size = refl; block = refl }
-
-pub stowed_beside : (s : List ℕ) (f : Frame) (d : Delivery) → length s ≡ image_bytes → Housed d → Beside s (stowed s f d)
-unfolding stowed
-stowed_beside s f (Into n c) h l = filed_beside s n h l f.ide f.rtr f.id f.dlc f.bytes (block_of s).tsc
-stowed_beside s f (Reply n c) h l = record { size = refl; block = refl }
-stowed_beside s f (Nowhere c) h l = record { size = refl; block = refl }
-
--- the counters are the block's
-pub loaded_beside : (s t : List ℕ) → Loaded s → Beside s t → Loaded t
-loaded_beside s t l b =
-    let e = sym b.block in
-    record {
-      size = b.size ∙ l.size;
-      slot = subst (λ (x : Block). x.slot ≤ empty_slot) e l.slot;
-      tsc = subst (λ (x : Block). x.tsc < 65536) e l.tsc;
-      tec = subst (λ (x : Block). x.tec ≤ 256) e l.tec;
-      rec = subst (λ (x : Block). x.rec ≤ 255) e l.rec;
-      recovery = subst (λ (x : Block). x.recovery ≤ 127) e l.recovery;
-    }
+postmarked_beside s k l filled = at (eqb k 0)
+  where
+    at : (t : Bool) → Beside s (cond t (postmarked s) s)
+    at true =
+        beside s (block_of s).slot l.size filled _
+        (length-stamped (mailbox s (block_of s).slot) (block_of s).tsc
+        ∙ length-mailbox s (block_of s).slot (room s (block_of s).slot l.size filled))
+    at false = record { size = refl; block = refl }

@@ -1,5 +1,5 @@
 -- Demand 2: an accepted step leaves a good image.
-use Prim.Native.Nat.{ℕ, zero, suc, ◌+◌, ◌-◌, ◌*◌, ◌^◌, ◌<◌}
+use Prim.Native.Nat.{ℕ, ◌+◌, ◌-◌, ◌*◌, ◌^◌, ◌<◌}
 use mathlib.Core.Path.{◌≡◌, refl, sym, ◌∙◌, ap}
 use mathlib.Core.Bool.{Bool, true, false, cond, not, ◌||◌, or-true, false≢true}
 use mathlib.Core.List.{List}
@@ -7,28 +7,26 @@ use mathlib.Core.Logic.{◌≢◌}
 use native.Mathlib.Omega.{arith}
 use lib.Dec.{eqb, ltb, leb}
 use lib.ListN.{length}
-use borrow.Author.Tests.{eqb-true, eqb-false, eq-eqb, ne_eqb, ltb-true, leb-true, not-false}
-use Rattle.bits.specs.Bit.{bit}
+use borrow.Author.Tests.{eqb-true, eqb-false, eq-eqb, ltb-true, leb-true, not-false}
 use Rattle.bits.proofs.Sets.{and_r}
 use Rattle.words.specs.Word.{put_word}
 use Rattle.words.proofs.Laws.{length-put}
 use Rattle.words.proofs.Bytes.{Bytes, bytes-put}
-use Rattle.registers.specs.declared.Block.{Block}
 use Rattle.registers.specs.Block.{masks_at, block_of, sleep, empty_slot}
-use Rattle.registers.specs.Status.{vacant, ecan, loops_back, asleep}
+use Rattle.registers.specs.Status.{vacant, ecan, asleep}
 use Rattle.registers.specs.Modes.{on_bus}
 use Rattle.registers.specs.Frames.{listened}
-use Rattle.registers.specs.Sending.{started, added, sent}
+use Rattle.registers.specs.Sending.{started, added, concluded}
 use Rattle.mailboxes.specs.Mailbox.{mailboxes, mailbox, with_mailbox, layout}
 use Rattle.mailboxes.specs.Filing.{filed, stamped}
 use Rattle.mailboxes.proofs.Laws.{length-mailbox, bytes-mailbox}
 use Rattle.mailboxes.proofs.Filed.{length-filed, bytes-filed, filed-layout, layout_alone, written-layout, length-stamped, bytes-stamped, stamped-layout}
 use Rattle.events.specs.declared.Event.{Event}
-use Rattle.events.specs.declared.Event.TheVariants.{Refused, Register, Mailbox, Heard, Start, Outcome, ReceiveError, Recessive, Tick, Mode, Options, Reset, Tests}
+use Rattle.events.specs.declared.Event.TheVariants.{Refused, Register, Mailbox, Heard, Start, Outcome, ReceiveError, Recessive, Tick, Mode, Options, Reset}
 use Rattle.events.specs.declared.Frame.{Frame}
 use Rattle.events.specs.Decode.{is_mask, register_allowed, event, decoded, wakeful_as}
 use Rattle.events.proofs.Refusals.{operation_of, is_refused, write-awake}
-use Rattle.events.proofs.Allowed.{Allowed, FrameFits, decoded_allowed, held_fits}
+use Rattle.events.proofs.Allowed.{Allowed, FrameAllowed, decoded_allowed}
 use Rattle.filter.specs.declared.Delivery.{Delivery}
 use Rattle.filter.specs.declared.Delivery.TheVariants.{Into, Reply, Nowhere}
 use Rattle.filter.specs.Filter.{delivery}
@@ -42,15 +40,14 @@ use Rattle.good.proofs.Masked.{mask_kept, zeros_kept}
 use Rattle.keeps.proofs.Open.{Open, good_open, risen_open}
 use Rattle.keeps.proofs.Settled.{settled-good}
 use Rattle.keeps.proofs.Writes.{written_open}
-use Rattle.keeps.proofs.Modes.{bus_mode, ticked_open, recessive_open, optioned_open, tested_open, worsened_open, asked_open, fresh_open}
+use Rattle.keeps.proofs.Modes.{ticked_open, recessive_open, optioned_open, worsened_open, asked_open, fresh_open}
 use Rattle.keeps.proofs.Frames.{listened_open, listened-awake, stored_open, replied_open}
+use Rattle.keeps.proofs.Words.{either}
 use Rattle.keeps.proofs.Sending.{started_open, sent_open, failed_open}
-use Rattle.refusals.specs.Refusal.{register_busy, register_locked, refusal, remaining}
+use Rattle.refusals.specs.Refusal.{refusal, remaining}
 use Rattle.refusals.proofs.Order.{refusal-good}
 use Rattle.answers.specs.Answer.{no_mailbox, refused}
-use Rattle.model.specs.Step.{loops, sent_frame, own, own_beside, goes, delivered, acted, block_after, started_with, stowed, masked, unmasked, postmarked, rewritten, beside_after, accepted, step}
-use Rattle.model.specs.Parts.{Housed}
-use Rattle.model.proofs.Housed.{housed, housed_if}
+use Rattle.model.specs.Step.{own, goes, delivered, acted, block_after, started_with, stowed, masked, unmasked, postmarked, rewritten, beside_after, accepted, step}
 use Rattle.model.proofs.Whole.{unrefused, real}
 
 -- ---- what an event that is not refused tells
@@ -59,10 +56,6 @@ use Rattle.model.proofs.Whole.{unrefused, real}
 clear : (t : Bool) (k x : ℕ) → 0 < k → cond t k x ≡ 0 → t ≡ false
 clear true k x h e = absurd (omega arith)
 clear false k x h e = refl
-
-later : (t : Bool) (k x : ℕ) → 0 < k → cond t k x ≡ 0 → x ≡ 0
-later true k x h e = absurd (omega arith)
-later false k x h e = e
 
 -- an event of a good image, decoded and not refused
 pub record Taken (s : List ℕ) (v : Event) : Type 0 where
@@ -74,20 +67,13 @@ pub record Taken (s : List ℕ) (v : Event) : Type 0 where
 -- ---- the register block
 
 module _ (s : List ℕ) where
-  -- a frame that is delivered, into a block that the unit's own listening, or its own sending, has left
-  held : (x : Block) (f : Frame) (d : Delivery) → Open x → (on_bus (block_of s) ≡ true → x.mode ≢ sleep) → x.md ≡ (block_of s).md → delivery s f ≡ d
-      → Open (delivered x f.rtr d)
-  unfolding delivered
-  held x f (Into n c) o awake m e = stored_open o n (into s f n c e).first.there f.rtr
-  held x f (Reply n c) o awake m e =
+  held : (f : Frame) (d : Delivery) → GoodBlock (block_of s) → delivery s f ≡ d → Open (delivered (listened (block_of s)) f.rtr d)
+  unfolding delivered listened
+  held f (Into n c) g e = stored_open (listened_open g) n (into s f n c e).first.there f.rtr
+  held f (Reply n c) g e =
       let r = reply s f n c e in
-      replied_open o (awake r.on_bus_lem) n r.first.there (ap (λ (w : ℕ). bit w n) m ∙ r.transmitter)
-  held x f (Nowhere c) o awake m e = o
-
-  heard_open : (f : Frame) → GoodBlock (block_of s) → Open (delivered (listened (block_of s)) f.rtr (delivery s f))
-  unfolding listened
-  heard_open f g =
-      held (listened (block_of s)) f (delivery s f) (listened_open (good_open g)) (λ on. listened-awake (block_of s) (bus_mode (block_of s) on)) refl refl
+      replied_open (listened_open g) (listened-awake (block_of s) r.on_bus_lem) n r.first.there r.transmitter
+  held f (Nowhere c) g e = listened_open g
 
   empty : ◌≡◌ {A = ℕ} (cond (not (vacant (block_of s))) 5 0) 0 → (block_of s).slot ≡ empty_slot
   empty z = eqb-true _ _ (not-false _ (clear (not (vacant (block_of s))) 5 0 (omega arith) z))
@@ -104,14 +90,8 @@ module _ (s : List ℕ) where
           let l = ltb-true (next s) no_mailbox e in
           absurd (omega (arith, next-off s h))
 
-  -- loop-back: the frame that was sent is heard after the sender's own flags
-  echoed_open : GoodBlock (block_of s) → (block_of s).slot ≢ empty_slot → (u : Bool)
-      → Open (delivered (cond u (listened (sent (block_of s))) (sent (block_of s))) (sent_frame s).rtr (cond u (delivery s (sent_frame s)) (Nowhere 0)))
-  unfolding listened sent delivered
-  echoed_open g full true =
-      held (listened (sent (block_of s))) (sent_frame s) (delivery s (sent_frame s)) (listened_open (sent_open g full))
-      (λ on. listened-awake (sent (block_of s)) (bus_mode (block_of s) on)) refl refl
-  echoed_open g full false = sent_open g full
+  concludes : (k : ℕ) → GoodBlock (block_of s) → (block_of s).slot ≢ empty_slot → Open (concluded (block_of s) k)
+  concludes k g f = either Open (eqb k 0) (λ e. sent_open g f) (λ e. failed_open g f (added (block_of s) k))
 
   -- an outcome that is not refused finds a mailbox in the slot
   pub outcome-slot : (k : ℕ) → Taken s (Outcome k) → (block_of s).slot ≢ empty_slot
@@ -123,27 +103,24 @@ module _ (s : List ℕ) where
   acted_open (Refused r) t = absurd t.fair
   acted_open (Register r v) t =
       written_open (block_of s) r v t.good.block (t.awake refl) t.fair.small t.fair.valued (clear _ 5 _ (omega arith) t.free)
-      (clear (register_locked (block_of s) r v) 6 0 (omega arith) (later (register_busy (block_of s) r v) 5 _ (omega arith) t.free))
   acted_open (Mailbox n k v) t = good_open t.good.block
-  acted_open (Heard f) t = heard_open f t.good.block
+  acted_open (Heard f) t = held f (delivery s f) t.good.block refl
   acted_open Start t = taken-up t.good.block (empty t.free)
-  acted_open (Outcome zero) t = echoed_open t.good.block (outcome-slot zero t) (loops_back (block_of s))
-  acted_open (Outcome (suc k)) t = rw (ne_eqb (suc k) 0 (λ z. absurd (omega arith))) (failed_open t.good.block (outcome-slot (suc k) t) (added (block_of s) (suc k)))
+  acted_open (Outcome k) t =
+      concludes k t.good.block (outcome-slot k t)
   acted_open (ReceiveError v) t = worsened_open t.good.block v
   acted_open Recessive t = recessive_open t.good.block
   acted_open Tick t = ticked_open t.good.block
   acted_open (Mode m) t = asked_open t.good.block m t.fair
   acted_open (Options v) t = optioned_open t.good.block v t.fair
   acted_open Reset t = fresh_open (block_of s).profile t.good.block.core.ranges.profile
-  acted_open (Tests v) t = tested_open t.good.block v t.fair
 
   pub block_after_lem : (v : Event) → Taken s v → GoodBlock (block_after s v)
   unfolding block_after
   block_after_lem v t = settled-good _ (risen_open (block_of s) (acted_open v t))
 
--- ---- the mailboxes
+  -- ---- the mailboxes
 
-module _ (s : List ℕ) where
   -- 16 bytes that keep to the layout, in the place of mailbox n
   replaced : (n : ℕ) (m : List ℕ) → n < mailboxes → GoodImage s → length m ≡ length (mailbox s n) → Bytes m → layout m 0 ≡ true
       → GoodImage (with_mailbox s n m)
@@ -155,9 +132,10 @@ module _ (s : List ℕ) where
   own-length : (n : ℕ) → n < mailboxes → GoodImage s → length (mailbox s n) ≡ 16
   own-length n h g = length-mailbox s n (omega (arith, g.size))
 
-  pub stowed-good : (f : Frame) (d : Delivery) → GoodImage s → FrameFits f → Housed d → GoodImage (stowed s f d)
+  stowed-good : (f : Frame) (d : Delivery) → GoodImage s → FrameAllowed f → delivery s f ≡ d → GoodImage (stowed s f d)
   unfolding stowed
-  stowed-good f (Into n c) g a h =
+  stowed-good f (Into n c) g a e =
+      let h = (into s f n c e).first.there in
       let m = mailbox s n in
       let y = bytes-mailbox s n g.bytes in
       let tsc = g.block.core.ranges.tsc in
@@ -165,10 +143,10 @@ module _ (s : List ℕ) where
       (length-filed m f.ide f.rtr f.id f.dlc f.bytes (block_of s).tsc)
       (bytes-filed m f.ide f.rtr f.id f.dlc f.bytes (block_of s).tsc y)
       (filed-layout m f.ide f.rtr f.id f.dlc f.bytes (block_of s).tsc (own-length n h g) a.standard a.identifier a.dlc tsc)
-  stowed-good f (Reply n c) g a h = g
-  stowed-good f (Nowhere c) g a h = g
+  stowed-good f (Reply n c) g a e = g
+  stowed-good f (Nowhere c) g a e = g
 
-  pub postmarked-good : GoodImage s → (block_of s).slot ≢ empty_slot → GoodImage (postmarked s)
+  postmarked-good : GoodImage s → (block_of s).slot ≢ empty_slot → GoodImage (postmarked s)
   unfolding postmarked
   postmarked-good g full =
       let n = (block_of s).slot in
@@ -192,39 +170,29 @@ module _ (s : List ℕ) where
   unfolding unmasked
   unmasked-good g = zeros_kept 32 0 s (omega arith) g
 
-module _ (s : List ℕ) where
-  -- the sender's time stamp, and in loop-back then the frame
-  echoed-good : (k : ℕ) → Taken s (Outcome k) → GoodImage (beside_after s (Outcome k))
-  unfolding goes beside_after
-  echoed-good k t =
-      let full = outcome-slot s k t in
-      let n : (block_of s).slot < mailboxes = omega (arith, t.good.block.core.ranges.slot) in
-      stowed-good (own_beside s (Outcome k)) (sent_frame s) (goes s (Outcome k)) (at (eqb k 0) full) (held_fits s (block_of s).slot (t.good.layouts (block_of s).slot n)) (housed_if s (sent_frame s) (loops s k))
-    where
-      at : (u : Bool) → (block_of s).slot ≢ empty_slot → GoodImage (cond u (postmarked s) s)
-      at true full = postmarked-good s t.good full
-      at false full = t.good
-
   pub boxes-after : (v : Event) → Taken s v → GoodImage (beside_after s v)
-  unfolding beside_after goes stowed rewritten
+  unfolding beside_after rewritten
   boxes-after (Refused r) t = t.good
-  boxes-after (Register r v) t = masked-good s r v t.good t.fair.small t.fair.valued
+  boxes-after (Register r v) t = masked-good r v t.good t.fair.small t.fair.valued
   boxes-after (Mailbox n k v) t =
       let g = t.good in
       let a = t.fair in
       let m = mailbox s n in
-      replaced s n (put_word m (4 * k) v) a.known g (length-put m (4 * k) v) (bytes-put m (4 * k) v (bytes-mailbox s n g.bytes))
-      (written-layout m k v (own-length s n a.known g) a.word_known a.small a.laid (own-layout s n a.known g))
-  boxes-after (Heard f) t = stowed-good s f (delivery s f) t.good t.fair.fits (housed s f)
+      replaced n (put_word m (4 * k) v) a.known g (length-put m (4 * k) v) (bytes-put m (4 * k) v (bytes-mailbox s n g.bytes))
+      (written-layout m k v (own-length n a.known g) a.word_known a.small a.laid (own-layout n a.known g))
+  boxes-after (Heard f) t = stowed-good f (delivery s f) t.good t.fair refl
   boxes-after Start t = t.good
-  boxes-after (Outcome k) t = echoed-good k t
+  boxes-after (Outcome k) t = at (eqb k 0)
+    where
+      at : (u : Bool) → GoodImage (cond u (postmarked s) s)
+      at true = postmarked-good t.good (outcome-slot k t)
+      at false = t.good
   boxes-after (ReceiveError v) t = t.good
   boxes-after Recessive t = t.good
   boxes-after Tick t = t.good
   boxes-after (Mode m) t = t.good
   boxes-after (Options v) t = t.good
-  boxes-after Reset t = unmasked-good s t.good
-  boxes-after (Tests v) t = t.good
+  boxes-after Reset t = unmasked-good t.good
 
   -- ---- the image
 
@@ -232,7 +200,7 @@ module _ (s : List ℕ) where
   unfolding accepted
   accepted-good v t =
       let m = boxes-after v t in
-      block_kept (beside_after s v) (block_after s v) m.bytes m.size m.layouts m.spare m.masks (block_after_lem s v t)
+      block_kept (beside_after s v) (block_after s v) m.bytes m.size m.layouts m.spare m.masks (block_after_lem v t)
 
 -- ---- the step, of any bytes: a good image stays good
 

@@ -15,14 +15,15 @@ use Rattle.mailboxes.specs.Mailbox.{mailbox, with_mailbox}
 use Rattle.mailboxes.specs.Filing.{filed, stamped}
 use Rattle.mailboxes.proofs.Filed.{length-filed, length-stamped}
 use Rattle.events.specs.declared.Event.{Event}
-use Rattle.events.specs.declared.Event.TheVariants.{Refused, Register, Mailbox, Heard, Start, Outcome, ReceiveError, Recessive, Tick, Mode, Options, Reset, Tests}
+use Rattle.events.specs.declared.Event.TheVariants.{Refused, Register, Mailbox, Heard, Start, Outcome, ReceiveError, Recessive, Tick, Mode, Options, Reset}
 use Rattle.events.specs.declared.Frame.{Frame}
 use Rattle.events.specs.Decode.{event}
 use Rattle.filter.specs.declared.Delivery.{Delivery}
 use Rattle.filter.specs.declared.Delivery.TheVariants.{Into, Reply, Nowhere}
+use Rattle.filter.specs.Filter.{delivery}
 use Rattle.refusals.specs.Refusal.{refusal}
 use Rattle.answers.specs.Answer.{refused}
-use Rattle.model.specs.Step.{brought, goes, own_beside, stowed, postmarked, rewritten, beside_after, block_after, accepted, step}
+use Rattle.model.specs.Step.{stowed, postmarked, rewritten, beside_after, block_after, accepted, step}
 use Rattle.model.proofs.Beside.{masked_beside, unmasked_beside}
 
 -- what stands in the place of a mailbox is as long as it was, wherever that is
@@ -45,29 +46,24 @@ length-stowed s f (Into n c) =
 length-stowed s f (Reply n c) = refl
 length-stowed s f (Nowhere c) = refl
 
-own_beside_lem : (s : List ℕ) (e : Event) → length (own_beside s e) ≡ length s
-unfolding postmarked rewritten
-own_beside_lem s (Refused r) = refl
-own_beside_lem s (Register t v) = (masked_beside s t v).size
-own_beside_lem s (Mailbox n k v) = length_replaced s n (put_word (mailbox s n) (4 * k) v) (length-put (mailbox s n) (4 * k) v)
-own_beside_lem s (Heard f) = refl
-own_beside_lem s Start = refl
-own_beside_lem s (Outcome k) = at (eqb k 0)
+pub length-after : (s : List ℕ) (e : Event) → length (beside_after s e) ≡ length s
+unfolding beside_after postmarked rewritten
+length-after s (Refused r) = refl
+length-after s (Register t v) = (masked_beside s t v).size
+length-after s (Mailbox n k v) = length_replaced s n (put_word (mailbox s n) (4 * k) v) (length-put (mailbox s n) (4 * k) v)
+length-after s (Heard f) = length-stowed s f (delivery s f)
+length-after s Start = refl
+length-after s (Outcome k) = at (eqb k 0)
   where
     at : (t : Bool) → length (cond t (postmarked s) s) ≡ length s
     at true = length_replaced s (block_of s).slot (stamped (mailbox s (block_of s).slot) (block_of s).tsc) (length-stamped (mailbox s (block_of s).slot) (block_of s).tsc)
     at false = refl
-own_beside_lem s (ReceiveError v) = refl
-own_beside_lem s Recessive = refl
-own_beside_lem s Tick = refl
-own_beside_lem s (Mode v) = refl
-own_beside_lem s (Options v) = refl
-own_beside_lem s Reset = (unmasked_beside s).size
-own_beside_lem s (Tests v) = refl
-
-pub length-after : (s : List ℕ) (e : Event) → length (beside_after s e) ≡ length s
-unfolding beside_after
-length-after s e = length-stowed (own_beside s e) (brought s e) (goes s e) ∙ own_beside_lem s e
+length-after s (ReceiveError v) = refl
+length-after s Recessive = refl
+length-after s Tick = refl
+length-after s (Mode v) = refl
+length-after s (Options v) = refl
+length-after s Reset = (unmasked_beside s).size
 
 pub step-length : (s e : List ℕ) → length (step s e).image ≡ length s
 unfolding step accepted

@@ -2,8 +2,6 @@
 pub mod Meets
 pub mod Beside
 pub mod Whole
-pub mod Housed
 pub mod Kept
-pub mod View
 pub mod Lengths
 mod Ends

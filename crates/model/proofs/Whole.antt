@@ -10,22 +10,20 @@ use borrow.Author.Tests.{eqb-false}
 use Rattle.registers.specs.Block.{block_of, empty_slot}
 use Rattle.registers.specs.Status.{vacant}
 use Rattle.events.specs.declared.Event.{Event}
-use Rattle.events.specs.declared.Event.TheVariants.{Refused, Register, Mailbox, Heard, Start, Outcome, ReceiveError, Recessive, Tick, Mode, Options, Reset, Tests}
+use Rattle.events.specs.declared.Event.TheVariants.{Refused, Register, Mailbox, Heard, Start, Outcome, ReceiveError, Recessive, Tick, Mode, Options, Reset}
 use Rattle.events.specs.Decode.{event, decoded}
 use Rattle.events.proofs.Refusals.{is_refused, refused-number, accepted}
 use Rattle.events.proofs.Allowed.{decoded_allowed}
 use Rattle.good.specs.Good.{good_image}
-use Rattle.good.proofs.Image.{GoodImage, image_facts}
+use Rattle.good.proofs.Image.{image_facts}
 use Rattle.refusals.specs.Refusal.{remaining, Fitting}
 use Rattle.model.specs.Parts.{Loaded, Sized}
 
-pub facts_loaded : (s : List ℕ) → GoodImage s → Loaded s
-facts_loaded s f =
+pub loaded : (s : List ℕ) → Bytes s → good_image s ≡ true → Loaded s
+loaded s h g =
+    let f = image_facts s h g in
     let r = f.block.core.ranges in
     record { size = f.size; slot = r.slot; tsc = r.tsc; tec = r.tec; rec = r.rec; recovery = r.recovery }
-
-pub loaded : (s : List ℕ) → Bytes s → good_image s ≡ true → Loaded s
-loaded s h g = facts_loaded s (image_facts s h g)
 
 module _ (s : List ℕ) (a p : Bool) (e : List ℕ) (b : Bytes e) (l : Loaded s) where
   pub sized : is_refused (decoded a p e) ≡ false → remaining s (decoded a p e) ≡ 0 → Sized s (decoded a p e)
@@ -44,7 +42,7 @@ module _ (s : List ℕ) (a p : Bool) (e : List ℕ) (b : Bytes e) (l : Loaded s)
       at (Refused r) h n z = absurd (false≢true (sym n))
       at (Register t v) h n z = tt
       at (Mailbox m k v) h n z = let x = decoded_allowed a p e (Mailbox m k v) b h refl in (x.known, x.word_known)
-      at (Heard f) h n z = let x = decoded_allowed a p e (Heard f) b h refl in record { id = x.fits.identifier; dlc = x.fits.dlc }
+      at (Heard f) h n z = let x = decoded_allowed a p e (Heard f) b h refl in record { id = x.identifier; dlc = x.dlc }
       at Start h n z = tt
       at (Outcome k) h n z = filled (vacant (block_of s)) refl z
       at (ReceiveError v) h n z = small v (decoded_allowed a p e (ReceiveError v) b h refl)
@@ -53,7 +51,6 @@ module _ (s : List ℕ) (a p : Bool) (e : List ℕ) (b : Bytes e) (l : Loaded s)
       at (Mode m) h n z = tt
       at (Options v) h n z = tt
       at Reset h n z = tt
-      at (Tests v) h n z = tt
 
 module _ (a p : Bool) (e : List ℕ) (b : Bytes e) where
   pub fitting : Fitting (decoded a p e)
@@ -72,7 +69,6 @@ module _ (a p : Bool) (e : List ℕ) (b : Bytes e) where
       at (Mode m) h = tt
       at (Options v) h = tt
       at Reset h = tt
-      at (Tests v) h = tt
 
 -- a decoded event that gets no refusal is a real one, and that of its bytes
 module _ (s : List ℕ) (a p : Bool) (e : List ℕ) where
@@ -98,7 +94,6 @@ module _ (s : List ℕ) (a p : Bool) (e : List ℕ) where
       at (Mode m) h z = refl
       at (Options v) h z = refl
       at Reset h z = refl
-      at (Tests v) h z = refl
 
   pub real : remaining s (decoded a p e) ≡ 0 → decoded a p e ≡ event e
   real z = (accepted a p e (decoded a p e) refl (unrefused z)).same

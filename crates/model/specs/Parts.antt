@@ -1,18 +1,15 @@
 -- What the parts of an accepted step may rely on, and what they leave.
-use Rattle.std.specs.Prelude.{ℕ, ◌^◌, ◌<◌, ◌≤◌, ◌≡◌, Bool, cond, List, length}
+use Rattle.std.specs.Prelude.{ℕ, ◌^◌, ◌<◌, ◌≤◌, ◌≡◌, List, length}
 use Rattle.registers.specs.Block.{image_bytes, block_of, put_block, empty_slot}
 use Rattle.registers.specs.Modes.{risen}
 use Rattle.registers.specs.Frames.{listened}
-use Rattle.registers.specs.Sending.{sent}
-use Rattle.mailboxes.specs.Mailbox.{mailboxes}
 use Rattle.mailboxes.specs.Filing.{highest_dlc}
 use Rattle.events.specs.declared.Frame.{Frame}
 use Rattle.events.specs.declared.Event.{Event}
-use Rattle.events.specs.declared.Event.TheVariants.{Refused, Register, Mailbox, Heard, Start, Outcome, ReceiveError, Recessive, Tick, Mode, Options, Reset, Tests}
+use Rattle.events.specs.declared.Event.TheVariants.{Refused, Register, Mailbox, Heard, Start, Outcome, ReceiveError, Recessive, Tick, Mode, Options, Reset}
 use Rattle.filter.specs.declared.Delivery.{Delivery}
-use Rattle.filter.specs.declared.Delivery.TheVariants.{Into, Reply, Nowhere}
 use Rattle.answers.specs.Answer.{packed}
-use Rattle.model.specs.Step.{acted, goes, delivered, stowed, postmarked, beside_after, named, named_by, count_of}
+use Rattle.model.specs.Step.{acted, goes, delivered, stowed, beside_after, named, named_by, count_of}
 
 -- An image whose counters are in their ranges.
 pub record Loaded (s : List ℕ) : Type 0 where
@@ -32,7 +29,7 @@ pub record Fit (f : Frame) : Type 0 where
 abbrev pub Sized : List ℕ → Event → Type 0
 Sized s (Refused r) = ⊥
 Sized s (Register t v) = Unit
-Sized s (Mailbox n k v) = (n < mailboxes) × (k < 4)
+Sized s (Mailbox n k v) = (n < 32) × (k < 4)
 Sized s (Heard f) = Fit f
 Sized s Start = Unit
 Sized s (Outcome k) = (block_of s).slot < 32
@@ -42,21 +39,13 @@ Sized s Tick = Unit
 Sized s (Mode m) = Unit
 Sized s (Options v) = Unit
 Sized s Reset = Unit
-Sized s (Tests v) = Unit
-
--- Receiving: a delivery to a mailbox that there is, or to none.
-abbrev pub Housed : Delivery → Type 0
-Housed (Into n c) = n < mailboxes
-Housed (Reply n c) = n < mailboxes
-Housed (Nowhere c) = Unit
 
 -- The image x and the answer r of an event that was accepted, before a waiting mode is entered.
 pub record Acted (s : List ℕ) (e : Event) (x : List ℕ) (r : ℕ) : Type 0 where
   pub image : x ≡ put_block (beside_after s e) (risen (block_of s) (acted s e))
   pub answered : r ≡ packed 0 (named s e) (count_of (goes s e))
 
--- Receiving; document 02, h): the same for a frame f that comes to the unit, once it is known where it goes. It is from the bus, or one of
--- ours that was sent: then the sender's effect comes first, and the answer names the sender.
-pub record Brought (s : List ℕ) (f : Frame) (ours : Bool) (d : Delivery) (x : List ℕ) (r : ℕ) : Type 0 where
-  pub image : x ≡ put_block (stowed (cond ours (postmarked s) s) f d) (risen (block_of s) (delivered (listened (cond ours (sent (block_of s)) (block_of s))) f.rtr d))
-  pub answered : r ≡ packed 0 (cond ours (block_of s).slot (named_by d)) (count_of d)
+-- The same for a frame, once it is known where it goes.
+pub record Delivered (s : List ℕ) (f : Frame) (d : Delivery) (x : List ℕ) (r : ℕ) : Type 0 where
+  pub image : x ≡ put_block (stowed s f d) (risen (block_of s) (delivered (listened (block_of s)) f.rtr d))
+  pub answered : r ≡ packed 0 (named_by d) (count_of d)

@@ -1,20 +1,18 @@
--- One step: what an accepted event does to the registers, to the bytes of mailboxes or the masks, and what it answers.
-use Rattle.std.specs.Prelude.{ℕ, ◌+◌, ◌-◌, ◌*◌, Bool, true, false, cond, ◌&&◌, List, eqb, ltb, replicate}
+-- One step: what an accepted event does to the registers, to the bytes of a mailbox or the masks, and what it answers.
+use Rattle.std.specs.Prelude.{ℕ, ◌+◌, ◌-◌, ◌*◌, Bool, false, cond, List, eqb, ltb, replicate}
 use Rattle.words.specs.Word.{put_word, put_words}
 use Rattle.registers.specs.declared.Block.{Block}
 use Rattle.registers.specs.Block.{masks_at, block_of, put_block}
-use Rattle.registers.specs.Status.{loops_back}
 use Rattle.fresh.specs.Fresh.{fresh_block}
 use Rattle.registers.specs.Writes.{written}
-use Rattle.registers.specs.Modes.{ticked, worsened, recessive, optioned, tested, asked, risen, settled}
+use Rattle.registers.specs.Modes.{ticked, worsened, recessive, optioned, asked, risen, settled}
 use Rattle.registers.specs.Frames.{listened, stored, replied}
 use Rattle.registers.specs.Sending.{started, concluded}
 use Rattle.mailboxes.specs.Mailbox.{mailboxes, mailbox, with_mailbox}
 use Rattle.mailboxes.specs.Filing.{filed, stamped}
 use Rattle.events.specs.declared.Event.{Event}
-use Rattle.events.specs.declared.Event.TheVariants.{Refused, Register, Mailbox, Heard, Start, Outcome, ReceiveError, Recessive, Tick, Mode, Options, Reset, Tests}
+use Rattle.events.specs.declared.Event.TheVariants.{Refused, Register, Mailbox, Heard, Start, Outcome, ReceiveError, Recessive, Tick, Mode, Options, Reset}
 use Rattle.events.specs.declared.Frame.{Frame}
-use Rattle.events.specs.Parts.{frame_at}
 use Rattle.events.specs.Decode.{is_mask, event}
 use Rattle.filter.specs.declared.Delivery.{Delivery}
 use Rattle.filter.specs.declared.Delivery.TheVariants.{Into, Reply, Nowhere}
@@ -23,65 +21,18 @@ use Rattle.sending.specs.Choice.{next}
 use Rattle.answers.specs.Answer.{Outcome as Result, no_mailbox, refused}
 use Rattle.refusals.specs.Refusal.{refusal}
 
--- ---- a frame that an event brings
-
--- Document 02, h), loop-back: the outcome sent, and no other, brings the frame of the slot's mailbox back to the unit itself.
-abbrev pub loops : List ℕ → ℕ → Bool
-loops s k = eqb k 0 && loops_back (block_of s)
-
-abbrev pub sent_frame : List ℕ → Frame
-sent_frame s = frame_at s (block_of s).slot
-
--- Receiving; document 02, h): does the event bring a frame? One from the bus, or in loop-back one of our own; from here on they are treated
--- alike.
-abbrev pub brings : List ℕ → Event → Bool
-brings s (Refused r) = false
-brings s (Register t v) = false
-brings s (Mailbox n k v) = false
-brings s (Heard f) = true
-brings s Start = false
-brings s (Outcome k) = loops s k
-brings s (ReceiveError v) = false
-brings s Recessive = false
-brings s Tick = false
-brings s (Mode m) = false
-brings s (Options v) = false
-brings s Reset = false
-brings s (Tests v) = false
-
--- Which frame. Where none is brought it goes nowhere, and nothing of it is used.
-abbrev pub brought : List ℕ → Event → Frame
-brought s (Refused r) = sent_frame s
-brought s (Register t v) = sent_frame s
-brought s (Mailbox n k v) = sent_frame s
-brought s (Heard f) = f
-brought s Start = sent_frame s
-brought s (Outcome k) = sent_frame s
-brought s (ReceiveError v) = sent_frame s
-brought s Recessive = sent_frame s
-brought s Tick = sent_frame s
-brought s (Mode m) = sent_frame s
-brought s (Options v) = sent_frame s
-brought s Reset = sent_frame s
-brought s (Tests v) = sent_frame s
-
--- Receiving: where it goes. Sending changes nothing that filtering asks for, so the image before the step tells it in loop-back too
--- (theorem same-way).
-unfoldable pub goes : List ℕ → Event → Delivery
-goes s e = cond (brings s e) (delivery s (brought s e)) (Nowhere 0)
-
 -- ---- the register block
 
 -- Sending: what was found goes into the slot; nothing found changes nothing.
 abbrev pub started_with : Block → ℕ → Block
 started_with b n = cond (ltb n no_mailbox) (started b n) b
 
--- The events: what each operation itself does to the registers. A frame that it brings comes after it.
+-- The events: what each operation itself does to the registers. What a frame does in a mailbox comes after it.
 unfoldable pub own : List ℕ → Event → Block
 own s (Refused r) = block_of s
 own s (Register t v) = written (block_of s) t v
 own s (Mailbox n k v) = block_of s
-own s (Heard f) = block_of s
+own s (Heard f) = listened (block_of s)
 own s Start = started_with (block_of s) (next s)
 own s (Outcome k) = concluded (block_of s) k
 own s (ReceiveError v) = worsened (block_of s) v
@@ -90,7 +41,35 @@ own s Tick = ticked (block_of s)
 own s (Mode m) = asked (block_of s) m
 own s (Options v) = optioned (block_of s) v
 own s Reset = fresh_block (block_of s).profile
-own s (Tests v) = tested (block_of s) v
+
+-- Receiving: where an event carries a frame, where it goes, and whether it is a remote one.
+unfoldable pub goes : List ℕ → Event → Delivery
+goes s (Refused r) = Nowhere 0
+goes s (Register t v) = Nowhere 0
+goes s (Mailbox n k v) = Nowhere 0
+goes s (Heard f) = delivery s f
+goes s Start = Nowhere 0
+goes s (Outcome k) = Nowhere 0
+goes s (ReceiveError v) = Nowhere 0
+goes s Recessive = Nowhere 0
+goes s Tick = Nowhere 0
+goes s (Mode m) = Nowhere 0
+goes s (Options v) = Nowhere 0
+goes s Reset = Nowhere 0
+
+abbrev pub remote : Event → Bool
+remote (Refused r) = false
+remote (Register t v) = false
+remote (Mailbox n k v) = false
+remote (Heard f) = f.rtr
+remote Start = false
+remote (Outcome k) = false
+remote (ReceiveError v) = false
+remote Recessive = false
+remote Tick = false
+remote (Mode m) = false
+remote (Options v) = false
+remote Reset = false
 
 -- Receiving: the flags of a frame that is stored, or that asks for a reply.
 unfoldable pub delivered : Block → Bool → Delivery → Block
@@ -98,15 +77,22 @@ delivered b rtr (Into n c) = stored b n rtr
 delivered b rtr (Reply n c) = replied b n
 delivered b rtr (Nowhere c) = b
 
--- Receiving; document 02, h): the operation's own effect, then what any frame does to the unit that hears it, then the frame's flags.
+-- The operation's own effect, then the frame's.
 abbrev pub acted : List ℕ → Event → Block
-acted s e = delivered (cond (brings s e) (listened (own s e)) (own s e)) (brought s e).rtr (goes s e)
+acted s e = delivered (own s e) (remote e) (goes s e)
 
 -- Sending, errors, modes: then the flags of bus off, passive and warning, where they begin to hold, and at the end a waiting mode.
 unfoldable pub block_after : List ℕ → Event → Block
 block_after s e = settled (risen (block_of s) (acted s e))
 
--- ---- the bytes beside the block: at most one mailbox changes, in loop-back two, or the masks
+-- ---- the bytes beside the block: at most one mailbox changes, or the masks
+
+-- Receiving: a frame that is stored is filed in its mailbox, with the time stamp of the moment.
+unfoldable pub stowed : List ℕ → Frame → Delivery → List ℕ
+stowed s f (Into n c) =
+    with_mailbox s n (filed (mailbox s n) f.ide f.rtr f.id f.dlc f.bytes (block_of s).tsc)
+stowed s f (Reply n c) = s
+stowed s f (Nowhere c) = s
 
 -- Sending, outcome sent: the time stamp goes into the mailbox that was sent.
 unfoldable pub postmarked : List ℕ → List ℕ
@@ -124,32 +110,19 @@ masked s t v = cond (is_mask t) (put_word s (masks_at + 4 * (t - 64)) v) s
 unfoldable pub unmasked : List ℕ → List ℕ
 unmasked s = put_words s masks_at (replicate mailboxes 0)
 
--- The events: what each operation itself does to these bytes.
-abbrev pub own_beside : List ℕ → Event → List ℕ
-own_beside s (Refused r) = s
-own_beside s (Register t v) = masked s t v
-own_beside s (Mailbox n k v) = rewritten s n k v
-own_beside s (Heard f) = s
-own_beside s Start = s
-own_beside s (Outcome k) = cond (eqb k 0) (postmarked s) s
-own_beside s (ReceiveError v) = s
-own_beside s Recessive = s
-own_beside s Tick = s
-own_beside s (Mode m) = s
-own_beside s (Options v) = s
-own_beside s Reset = unmasked s
-own_beside s (Tests v) = s
-
--- Receiving: a frame that is stored is filed in its mailbox, with the time stamp of the moment.
-unfoldable pub stowed : List ℕ → Frame → Delivery → List ℕ
-stowed s f (Into n c) =
-    with_mailbox s n (filed (mailbox s n) f.ide f.rtr f.id f.dlc f.bytes (block_of s).tsc)
-stowed s f (Reply n c) = s
-stowed s f (Nowhere c) = s
-
--- Receiving; document 02, h): the operation's own bytes, then the frame's.
 unfoldable pub beside_after : List ℕ → Event → List ℕ
-beside_after s e = stowed (own_beside s e) (brought s e) (goes s e)
+beside_after s (Refused r) = s
+beside_after s (Register t v) = masked s t v
+beside_after s (Mailbox n k v) = rewritten s n k v
+beside_after s (Heard f) = stowed s f (delivery s f)
+beside_after s Start = s
+beside_after s (Outcome k) = cond (eqb k 0) (postmarked s) s
+beside_after s (ReceiveError v) = s
+beside_after s Recessive = s
+beside_after s Tick = s
+beside_after s (Mode m) = s
+beside_after s (Options v) = s
+beside_after s Reset = unmasked s
 
 -- ---- the answer
 
@@ -178,7 +151,6 @@ named s Tick = no_mailbox
 named s (Mode m) = no_mailbox
 named s (Options v) = no_mailbox
 named s Reset = no_mailbox
-named s (Tests v) = no_mailbox
 
 -- ---- the whole
 

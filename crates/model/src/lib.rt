@@ -4,16 +4,14 @@
 // and neither loads nor stores them.
 #![tactic(auto)]
 
-ghost use Rattle.std.specs.Prelude.{◌≡◌, true, false, cond, eqb, length, ◌<◌, ◌≤◌};
+ghost use Rattle.std.specs.Prelude.{◌≡◌, cond, eqb, length, ◌<◌, ◌≤◌};
 ghost use Rattle.registers.specs.Block.{image_bytes, block_of, put_block, no_mode, empty_slot};
-ghost use Rattle.registers.specs.Status.{loops_back};
 ghost use Rattle.registers.specs.Modes.{settled};
-ghost use Rattle.events.specs.declared.Event.TheVariants.{Register, Mailbox, Heard, Start, Outcome, ReceiveError, Recessive, Tick, Mode, Options, Reset, Tests};
+ghost use Rattle.events.specs.declared.Event.TheVariants.{Register, Mailbox, Heard, Start, Outcome, ReceiveError, Recessive, Tick, Mode, Options, Reset};
 ghost use Rattle.filter.specs.declared.Delivery.TheVariants.{Into, Reply, Nowhere};
-ghost use Rattle.filter.specs.Filter.{delivery};
 ghost use Rattle.answers.specs.Answer.{Promise};
-ghost use Rattle.model.specs.Step.{loops, started_with, masked, unmasked, postmarked, delivered, stowed, count_of, step as step_of};
-ghost use Rattle.model.specs.Parts.{Loaded, Sized, Fit, Housed, Acted, Brought};
+ghost use Rattle.model.specs.Step.{started_with, masked, unmasked, postmarked, step as step_of};
+ghost use Rattle.model.specs.Parts.{Loaded, Sized, Fit, Acted, Delivered};
 
 use events::{Event, Frame};
 use filter::Delivery;
@@ -51,143 +49,48 @@ fn write_mailbox(image: &mut [u8], n: u32, k: u32, v: u32) -> u64
     answers::pack(0, 32, 0)
 }
 
-// ---- frames from the bus
+// ---- frames: REC can only fall, so no flag rises
 
-// A frame's bytes, be it from the bus or our own, into mailbox n, with the time stamp of the moment.
-fn put_frame(image: &mut [u8], f: Frame, n: u32)
-    requires { (Loaded image.old) × (Fit f) × (n < 32) }
-    ensures { image.new ≡ stowed image.old f (Into n 0) }
-{
-    let stamp = Block::load(image).tsc;
-    mailboxes::put_frame(image, n as usize, f.ide, f.rtr, f.id, f.dlc, f.bytes, stamp)
-}
-
-// A frame from the bus that is stored in mailbox n. REC can only fall, so no flag rises. The block is loaded behind the mailbox's
-// bytes: any write into the image might, for the compiler, change it.
+// A frame that is stored in mailbox n. The block is loaded behind the mailbox's bytes: any write into the image might, for the
+// compiler, change it.
 fn store(image: &mut [u8], f: Frame, n: u32, count: u32) -> u64
     requires { (Loaded image.old) × (Fit f) × (n < 32) }
-    ensures { Brought image.old f false (Into n count) image.new result }
+    ensures { Delivered image.old f (Into n count) image.new result }
 {
-    put_frame(image, f, n);
+    let stamp = Block::load(image).tsc;
+    mailboxes::put_frame(image, n as usize, f.ide, f.rtr, f.id, f.dlc, f.bytes, stamp);
     Block::load(image).listen().hold(n, f.rtr).store(image);
     answers::pack(0, n, count)
 }
 
-// One that asks mailbox n for a reply.
+// A frame that asks mailbox n for a reply.
 fn reply(image: &mut [u8], f: Frame, n: u32, count: u32) -> u64
     requires { (Loaded image.old) × (n < 32) }
-    ensures { Brought image.old f false (Reply n count) image.new result }
+    ensures { Delivered image.old f (Reply n count) image.new result }
 {
     Block::load(image).listen().reply(n).store(image);
     answers::pack(0, n, count)
 }
 
-// One that goes nowhere.
+// A frame that goes nowhere.
 fn miss(image: &mut [u8], f: Frame, count: u32) -> u64
     requires { Loaded image.old }
-    ensures { Brought image.old f false (Nowhere count) image.new result }
+    ensures { Delivered image.old f (Nowhere count) image.new result }
 {
     Block::load(image).listen().store(image);
     answers::pack(0, 32, count)
-}
-
-// A frame from the bus, by where it goes.
-fn hear_to(image: &mut [u8], f: Frame, d: Delivery) -> u64
-    requires { (Loaded image.old) × (Fit f) × (Housed d) }
-    ensures { Brought image.old f false d image.new result }
-{
-    match d {
-        Delivery::Into { mailbox, count } => store(image, f, mailbox, count),
-        Delivery::Reply { mailbox, count } => reply(image, f, mailbox, count),
-        Delivery::Nowhere { count } => miss(image, f, count),
-    }
-}
-
-// ---- frames of our own, in loop-back
-
-// A frame's bytes, where it is stored.
-fn stow(image: &mut [u8], f: Frame, d: Delivery)
-    requires { (Loaded image.old) × (Fit f) × (Housed d) }
-    ensures { image.new ≡ stowed image.old f d }
-{
-    match d {
-        Delivery::Into { mailbox, count: _ } => put_frame(image, f, mailbox),
-        Delivery::Reply {
-            mailbox: _,
-            count: _,
-        } => {}
-        Delivery::Nowhere { count: _ } => {}
-    }
-}
-
-// A frame's flags.
-fn deliver_to(b: Block, rtr: bool, d: Delivery) -> Block
-    requires { Housed d }
-    ensures { result ≡ delivered b rtr d }
-{
-    match d {
-        Delivery::Into { mailbox, count: _ } => b.hold(mailbox, rtr),
-        Delivery::Reply { mailbox, count: _ } => b.reply(mailbox),
-        Delivery::Nowhere { count: _ } => b,
-    }
-}
-
-// How many mailboxes a frame was compared with.
-fn count_of(d: Delivery) -> u32
-    ensures { result ≡ count_of d }
-{
-    match d {
-        Delivery::Into { mailbox: _, count } => count,
-        Delivery::Reply { mailbox: _, count } => count,
-        Delivery::Nowhere { count } => count,
-    }
-}
-
-// The time stamp of a frame that was sent.
-fn postmark(image: &mut [u8], sent: bool)
-    requires { (Loaded image.old) × (sent ≡ true → (block_of image.old).slot < 32) }
-    ensures { image.new ≡ cond sent (postmarked image.old) image.old }
-{
-    if sent {
-        let b = Block::load(image);
-        mailboxes::put_stamp(image, b.slot as usize, b.tsc);
-    }
-}
-
-// The sender's stamp and flags, then the frame's, and the answer names the sender. TEC can only fall too, so no flag rises.
-fn echo_to(image: &mut [u8], f: Frame, d: Delivery) -> u64
-    requires { (Loaded image.old) × ((block_of image.old).slot < 32) × (Fit f) × (Housed d) }
-    ensures { Brought image.old f true d image.new result }
-{
-    postmark(image, true);
-    stow(image, f, d);
-    let b = Block::load(image);
-    deliver_to(b.send().listen(), f.rtr, d).store(image);
-    answers::pack(0, b.slot, count_of(d))
-}
-
-// ---- a frame that comes to the unit
-
-// One from the bus, or one of ours that was sent. Where it goes is asked first for both, since sending changes nothing that filtering
-// asks for. Behind the search they part: a frame from the bus, which comes more often, is not to load and store what only a sending
-// changes.
-fn bring(image: &mut [u8], f: Frame, ours: bool) -> u64
-    requires { (Loaded image.old) × (Fit f) × (ours ≡ true → (block_of image.old).slot < 32) }
-    ensures { Brought image.old f ours (delivery image.old f) image.new result }
-{
-    let d = filter::deliver(image, Block::load(image), f);
-    if ours {
-        echo_to(image, f, d)
-    } else {
-        hear_to(image, f, d)
-    }
 }
 
 fn hear(image: &mut [u8], f: Frame) -> u64
     requires { (Loaded image.old) × (Fit f) }
     ensures { Acted image.old (Heard f) image.new result }
 {
-    bring(image, f, false)
+    let d = filter::deliver(image, Block::load(image), f);
+    match d {
+        Delivery::Into { mailbox, count } => store(image, f, mailbox, count),
+        Delivery::Reply { mailbox, count } => reply(image, f, mailbox, count),
+        Delivery::Nowhere { count } => miss(image, f, count),
+    }
 }
 
 // ---- sending
@@ -209,35 +112,25 @@ fn start(image: &mut [u8]) -> u64
     answers::pack(0, n, 0)
 }
 
-// Loop-back: the frame that was sent comes back.
-fn echo(image: &mut [u8]) -> u64
-    requires { (Loaded image.old) × ((block_of image.old).slot < 32) × (loops_back (block_of image.old) ≡ true) }
-    ensures { Acted image.old (Outcome 0) image.new result }
+// The time stamp of a frame that was sent.
+fn postmark(image: &mut [u8], kind: u32)
+    requires { (Loaded image.old) × ((block_of image.old).slot < 32) }
+    ensures { image.new ≡ cond (eqb kind 0) (postmarked image.old) image.old }
 {
-    let f = events::frame_at(image, Block::load(image).slot as usize);
-    bring(image, f, true)
-}
-
-// An outcome that brings nothing back.
-fn conclude_alone(image: &mut [u8], kind: u32) -> u64
-    requires { (Loaded image.old) × ((block_of image.old).slot < 32) × (loops image.old kind ≡ false) }
-    ensures { Acted image.old (Outcome kind) image.new result }
-{
-    postmark(image, kind == 0);
-    let b = Block::load(image);
-    b.conclude(kind).rise(b).store(image);
-    answers::pack(0, b.slot, 0)
+    if kind == 0 {
+        let b = Block::load(image);
+        mailboxes::put_stamp(image, b.slot as usize, b.tsc);
+    }
 }
 
 fn conclude(image: &mut [u8], kind: u32) -> u64
     requires { (Loaded image.old) × ((block_of image.old).slot < 32) }
     ensures { Acted image.old (Outcome kind) image.new result }
 {
-    if (kind == 0) & Block::load(image).is_looped() {
-        echo(image)
-    } else {
-        conclude_alone(image, kind)
-    }
+    postmark(image, kind);
+    let b = Block::load(image);
+    b.conclude(kind).rise(b).store(image);
+    answers::pack(0, b.slot, 0)
 }
 
 // ---- errors, time, modes
@@ -287,15 +180,6 @@ fn choose_options(image: &mut [u8], v: u32) -> u64
     answers::pack(0, 32, 0)
 }
 
-fn choose_tests(image: &mut [u8], v: u32) -> u64
-    requires { Loaded image.old }
-    ensures { Acted image.old (Tests v) image.new result }
-{
-    let b = Block::load(image);
-    b.with_tests(v).rise(b).store(image);
-    answers::pack(0, 32, 0)
-}
-
 fn clear_masks(image: &mut [u8])
     requires { length image.old ≡ image_bytes }
     ensures { image.new ≡ unmasked image.old }
@@ -341,7 +225,6 @@ fn act(image: &mut [u8], e: Event) -> u64
         Event::Mode { value } => ask(image, value),
         Event::Options { value } => choose_options(image, value),
         Event::Reset => reset(image),
-        Event::Tests { value } => choose_tests(image, value),
     }
 }
 

@@ -8,7 +8,7 @@ use Rattle.bits.specs.Tests.{first_from}
 use Rattle.registers.specs.Block.{block_of}
 use Rattle.registers.specs.Status.{ecan, asleep}
 use Rattle.events.specs.declared.Event.{Event}
-use Rattle.events.specs.declared.Event.TheVariants.{Refused, Register, Mailbox, Heard, Start, Outcome, ReceiveError, Recessive, Tick, Mode, Options, Reset, Tests}
+use Rattle.events.specs.declared.Event.TheVariants.{Refused, Register, Mailbox, Heard, Start, Outcome, ReceiveError, Recessive, Tick, Mode, Options, Reset}
 use Rattle.events.specs.Decode.{unknown, wakeful, disallowed, event, decoded}
 use Rattle.events.proofs.Refusals.{unknown-refused, asleep-refused, disallowed-refused, decoded-event, never_refused}
 use Rattle.good.specs.Good.{good_image}
@@ -30,7 +30,6 @@ rest s Tick n = refl
 rest s (Mode m) n = refl
 rest s (Options v) n = refl
 rest s Reset n = refl
-rest s (Tests v) n = refl
 
 module _ (s e : List ℕ) where
   pub refusal-bad : good_image s ≡ false → refusal s e ≡ 1

@@ -4,12 +4,12 @@ use Rattle.std.specs.Int.Bits.{bit_xor}
 use Rattle.bits.specs.Bit.{bit, without}
 use Rattle.bits.specs.Tests.{apart, first_from}
 use Rattle.registers.specs.declared.Block.{Block}
-use Rattle.registers.specs.Block.{block_of, normal, configuration, suspend}
-use Rattle.registers.specs.Status.{vacant, filled, ecan, tests_errors, asleep, bus_off}
-use Rattle.registers.specs.Writes.{counters_number, direction}
+use Rattle.registers.specs.Block.{block_of, normal, configuration}
+use Rattle.registers.specs.Status.{vacant, filled, ecan, asleep}
+use Rattle.registers.specs.Writes.{direction}
 use Rattle.mailboxes.specs.Mailbox.{mailbox_word, rfh}
 use Rattle.events.specs.declared.Event.{Event}
-use Rattle.events.specs.declared.Event.TheVariants.{Refused, Register, Mailbox, Heard, Start, Outcome, ReceiveError, Recessive, Tick, Mode, Options, Reset, Tests}
+use Rattle.events.specs.declared.Event.TheVariants.{Refused, Register, Mailbox, Heard, Start, Outcome, ReceiveError, Recessive, Tick, Mode, Options, Reset}
 use Rattle.events.specs.Decode.{unknown, wakeful, disallowed, event}
 use Rattle.good.specs.Good.{good_image}
 
@@ -47,22 +47,17 @@ busy b Tick = false
 busy b (Mode m) = false
 busy b (Options v) = false
 busy b Reset = false
-busy b (Tests v) = false
 
 -- The events, locked; document 02, g): the registers of the other profile: the masks and the protection word of an eCAN, LAM and GAM of a CAN-B.
 abbrev pub foreign : Block → ℕ → Bool
 foreign b t = cond (ecan b) (eqb t 8 || eqb t 9) (leb 64 t)
 
--- Document 02, h), locked: the error counters outside test error mode, and in bus off.
-abbrev pub counters_locked : Block → Bool
-counters_locked b = not (tests_errors b) || bus_off b
-
--- The events, locked: an MD write that turns round an enabled mailbox; the bit timing outside configuration; by document 02, h) the
--- error counters, by g) a register of the other profile.
+-- The events, locked: an MD write that turns round an enabled mailbox; the bit timing outside configuration; a register of the
+-- other profile.
 abbrev pub register_locked : Block → ℕ → ℕ → Bool
 register_locked b t v =
     cond (eqb t 1) (meet b.mc (turned_round b v))
-    (((eqb t 17 || eqb t 18) && not (eqb b.mode configuration)) || (eqb t counters_number && counters_locked b) || foreign b t)
+    (((eqb t 17 || eqb t 18) && not (eqb b.mode configuration)) || foreign b t)
 
 -- The events, locked: of an enabled mailbox, word 0; the data words where it receives, and where it replies by itself and CDR
 -- does not hold it back.
@@ -90,10 +85,6 @@ abbrev pub mode_open : Block → ℕ → Bool
 mode_open b m =
     eqb m b.mode || (eqb b.mode normal || (eqb m normal && (not (eqb b.mode configuration) || timed b)))
 
--- Document 02, h), locked: the test modes are switched in suspend only.
-abbrev pub tests_locked : Block → Bool
-tests_locked b = not (eqb b.mode suspend)
-
 unfoldable pub locked : List ℕ → Event → Bool
 locked s (Refused r) = false
 locked s (Register t v) = register_locked (block_of s) t v
@@ -107,7 +98,6 @@ locked s Tick = false
 locked s (Mode m) = not (mode_open (block_of s) m)
 locked s (Options v) = false
 locked s Reset = false
-locked s (Tests v) = tests_locked (block_of s)
 
 -- The events, refusal 7: an outcome while nothing is being sent.
 unfoldable pub pointless : Block → Event → Bool
@@ -123,7 +113,6 @@ pointless b Tick = false
 pointless b (Mode m) = false
 pointless b (Options v) = false
 pointless b Reset = false
-pointless b (Tests v) = false
 
 -- The events, refusals: the number of the first that applies, 1 to 7; 0 where none does. Nothing else decides a refusal.
 abbrev pub reasons : List ℕ → List ℕ → List Bool
@@ -154,7 +143,6 @@ Fitting Tick = Unit
 Fitting (Mode m) = Unit
 Fitting (Options v) = Unit
 Fitting Reset = Unit
-Fitting (Tests v) = Unit
 
 -- What is left of that once the image is good and the event is decoded.
 unfoldable pub remaining : List ℕ → Event → ℕ
@@ -170,4 +158,3 @@ remaining s Tick = 0
 remaining s (Mode m) = first_from 6 (not (mode_open (block_of s) m) ∷ [])
 remaining s (Options v) = 0
 remaining s Reset = 0
-remaining s (Tests v) = first_from 6 (tests_locked (block_of s) ∷ [])

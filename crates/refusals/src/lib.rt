@@ -5,7 +5,7 @@ ghost use Rattle.std.specs.Prelude.{◌≡◌, [], ◌∷◌, ◌<◌, length};
 ghost use Rattle.bits.specs.Tests.{first_from};
 ghost use Rattle.registers.specs.Block.{image_bytes, block_of};
 ghost use Rattle.mailboxes.specs.Mailbox.{mailbox_word};
-ghost use Rattle.refusals.specs.Refusal.{meet as meet_of, turned_round, register_busy, mailbox_busy, foreign, counters_locked, register_locked, data_locked, mailbox_locked, timed, mode_open, remaining, Fitting};
+ghost use Rattle.refusals.specs.Refusal.{meet as meet_of, turned_round, register_busy, mailbox_busy, foreign, register_locked, data_locked, mailbox_locked, timed, mode_open, remaining, Fitting};
 
 use events::Event;
 use registers::Block;
@@ -47,22 +47,13 @@ fn is_foreign(b: Block, t: u32) -> bool
     }
 }
 
-// Are the error counters not to be written?
-fn is_counters_locked(b: Block) -> bool
-    ensures { result ≡ counters_locked b }
-{
-    !b.is_testing_errors() | b.is_bus_off()
-}
-
 fn is_register_locked(b: Block, t: u32, v: u32) -> bool
     ensures { result ≡ register_locked b t v }
 {
     if t == 1 {
         return meet(b.mc, turned_round(b, v));
     }
-    (((t == 17) | (t == 18)) & !(b.mode == 1))
-        | ((t == 33) & is_counters_locked(b))
-        | is_foreign(b, t)
+    (((t == 17) | (t == 18)) & !(b.mode == 1)) | is_foreign(b, t)
 }
 
 fn is_mailbox_busy(b: Block, n: u32) -> bool
@@ -115,8 +106,7 @@ fn mailbox_refusal(s: &[u8], b: Block, n: u32, k: u32) -> u32
     first(is_mailbox_busy(b, n), is_mailbox_locked(b, n, k, w))
 }
 
-// The refusal of a decoded event, 0 where it is accepted. What only a register write asks for is loaded where it is asked for: as a part of
-// b, which is loaded before the operation is known, it would be loaded in every step.
+// The refusal of a decoded event, 0 where it is accepted.
 pub fn remaining_refusal(s: &[u8], b: Block, e: Event) -> u32
     requires { (length s.now ≡ image_bytes) × (b ≡ block_of s.now) × (Fitting e) }
     ensures { result ≡ remaining s.now e }
@@ -125,7 +115,7 @@ pub fn remaining_refusal(s: &[u8], b: Block, e: Event) -> u32
         Event::Refused { number } => number,
         Event::Register { target, value } => first(
             is_register_busy(b, target, value),
-            is_register_locked(Block::load(s), target, value),
+            is_register_locked(b, target, value),
         ),
         Event::Mailbox {
             target,
@@ -141,6 +131,5 @@ pub fn remaining_refusal(s: &[u8], b: Block, e: Event) -> u32
         Event::Mode { value } => bits::choose(!is_mode_open(b, value), 6, 0),
         Event::Options { value: _ } => 0,
         Event::Reset => 0,
-        Event::Tests { value: _ } => bits::choose(!(b.mode == 3), 6, 0),
     }
 }

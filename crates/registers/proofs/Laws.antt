@@ -25,7 +25,7 @@ put_block_again s a b =
 
 -- every word of the block fits its four bytes
 abbrev pub Small : Block → Type 0
-Small b = (j : ℕ) → j < 31 → get_or (to_words b) j 0 < 2 ^ 32
+Small b = (j : ℕ) → j < 30 → get_or (to_words b) j 0 < 2 ^ 32
 
 module _ (s : List ℕ) (b : Block) where
   pub length_block : length (put_block s b) ≡ length s
@@ -56,7 +56,7 @@ module _ (s : List ℕ) (b : Block) where
       before-put (put_words s registers_at (first_words b)) protection_at (last_words b) (masks_at + 4 * n) (omega arith)
       ∙ after-put s registers_at (first_words b) (masks_at + 4 * n) (omega arith)
 
-  pub spare-stays : (k : ℕ) → 29 ≤ k → k < 64 → word_at (put_block s b) (registers_at + 4 * k) ≡ word_at s (registers_at + 4 * k)
+  pub spare-stays : (k : ℕ) → 28 ≤ k → k < 64 → word_at (put_block s b) (registers_at + 4 * k) ≡ word_at s (registers_at + 4 * k)
   unfolding put_block
   spare-stays k h l =
       before-put (put_words s registers_at (first_words b)) protection_at (last_words b) (registers_at + 4 * k) (omega arith)
@@ -70,7 +70,7 @@ module _ (s : List ℕ) (b : Block) where
       ∙ after-put s registers_at (first_words b) i (omega arith)
 
   module _ (h : length s ≡ image_bytes) (fit : Small b) where
-    first_back : (k : ℕ) → k < 29 → word_at (put_block s b) (registers_at + 4 * k) ≡ get_or (first_words b) k 0
+    first_back : (k : ℕ) → k < 28 → word_at (put_block s b) (registers_at + 4 * k) ≡ get_or (first_words b) k 0
     unfolding put_block
     first_back k hk =
         before-put (put_words s registers_at (first_words b)) protection_at (last_words b) (registers_at + 4 * k) (omega arith)
@@ -83,12 +83,12 @@ module _ (s : List ℕ) (b : Block) where
     last_back k hk =
         let l = length-put-words s registers_at (first_words b) in
         word_of_put (put_words s registers_at (first_words b)) protection_at (last_words b) k
-        (λ j l. subst (λ (x : ℕ). x < 2 ^ 32) (get_or-append-add (first_words b) (last_words b) j 0) (fit (29 + j) (omega arith)))
+        (λ j l. subst (λ (x : ℕ). x < 2 ^ 32) (get_or-append-add (first_words b) (last_words b) j 0) (fit (28 + j) (omega arith)))
         (omega arith) hk
 
     pub block_back : block_of (put_block s b) ≡ b
     unfolding block_of
     block_back =
-        let w : (k : ℕ) → k < 29 → get_or (words_of (put_block s b) registers_at register_words) k 0 ≡ get_or (first_words b) k 0 =
+        let w : (k : ℕ) → k < 28 → get_or (words_of (put_block s b) registers_at register_words) k 0 ≡ get_or (first_words b) k 0 =
         λ k hk. word_of (put_block s b) registers_at register_words k (omega arith) ∙ first_back k hk in
-        λ i. record { mc = w 0 (lit< tt) i; md = w 1 (lit< tt) i; trs = w 2 (lit< tt) i; trr = w 3 (lit< tt) i; ta = w 4 (lit< tt) i; aa = w 5 (lit< tt) i; rmp = w 6 (lit< tt) i; rml = w 7 (lit< tt) i; lam = w 8 (lit< tt) i; gam = w 9 (lit< tt) i; rfp = w 10 (lit< tt) i; cdr = w 11 (lit< tt) i; mbtif = w 12 (lit< tt) i; mbrif = w 13 (lit< tt) i; mbim = w 14 (lit< tt) i; gif = w 15 (lit< tt) i; gim = w 16 (lit< tt) i; bcr1 = w 17 (lit< tt) i; bcr2 = w 18 (lit< tt) i; tsc = w 19 (lit< tt) i; tec = w 20 (lit< tt) i; rec = w 21 (lit< tt) i; mode = w 22 (lit< tt) i; waiting = w 23 (lit< tt) i; slot = w 24 (lit< tt) i; recovery = w 25 (lit< tt) i; options = w 26 (lit< tt) i; tso = w 27 (lit< tt) i; tests = w 28 (lit< tt) i; protection = last_back 0 (lit< tt) i; profile = last_back 1 (lit< tt) i }
+        λ i. record { mc = w 0 (lit< tt) i; md = w 1 (lit< tt) i; trs = w 2 (lit< tt) i; trr = w 3 (lit< tt) i; ta = w 4 (lit< tt) i; aa = w 5 (lit< tt) i; rmp = w 6 (lit< tt) i; rml = w 7 (lit< tt) i; lam = w 8 (lit< tt) i; gam = w 9 (lit< tt) i; rfp = w 10 (lit< tt) i; cdr = w 11 (lit< tt) i; mbtif = w 12 (lit< tt) i; mbrif = w 13 (lit< tt) i; mbim = w 14 (lit< tt) i; gif = w 15 (lit< tt) i; gim = w 16 (lit< tt) i; bcr1 = w 17 (lit< tt) i; bcr2 = w 18 (lit< tt) i; tsc = w 19 (lit< tt) i; tec = w 20 (lit< tt) i; rec = w 21 (lit< tt) i; mode = w 22 (lit< tt) i; waiting = w 23 (lit< tt) i; slot = w 24 (lit< tt) i; recovery = w 25 (lit< tt) i; options = w 26 (lit< tt) i; tso = w 27 (lit< tt) i; protection = last_back 0 (lit< tt) i; profile = last_back 1 (lit< tt) i }

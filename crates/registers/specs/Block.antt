@@ -11,7 +11,7 @@ abbrev pub registers_at : ℕ
 registers_at = 512
 
 abbrev pub register_words : ℕ
-register_words = 29
+register_words = 28
 
 -- Document 02, g), the image from byte 640 on: a mask for each mailbox, then the protection word, then the profile.
 abbrev pub masks_at : ℕ
@@ -26,19 +26,19 @@ protection_at = 768
 abbrev pub profile_at : ℕ
 profile_at = 772
 
--- The image, words from 512: which word is which register. The words 29 to 31 are no part of the block; the protection word and
+-- The image, words from 512: which word is which register. The words 28 to 31 are no part of the block; the protection word and
 -- the profile are its last two.
 abbrev pub of_parts : List ℕ → ℕ → ℕ → Block
 of_parts row guard kind =
-    record { mc = get_or row 0 0; md = get_or row 1 0; trs = get_or row 2 0; trr = get_or row 3 0; ta = get_or row 4 0; aa = get_or row 5 0; rmp = get_or row 6 0; rml = get_or row 7 0; lam = get_or row 8 0; gam = get_or row 9 0; rfp = get_or row 10 0; cdr = get_or row 11 0; mbtif = get_or row 12 0; mbrif = get_or row 13 0; mbim = get_or row 14 0; gif = get_or row 15 0; gim = get_or row 16 0; bcr1 = get_or row 17 0; bcr2 = get_or row 18 0; tsc = get_or row 19 0; tec = get_or row 20 0; rec = get_or row 21 0; mode = get_or row 22 0; waiting = get_or row 23 0; slot = get_or row 24 0; recovery = get_or row 25 0; options = get_or row 26 0; tso = get_or row 27 0; tests = get_or row 28 0; protection = guard; profile = kind }
+    record { mc = get_or row 0 0; md = get_or row 1 0; trs = get_or row 2 0; trr = get_or row 3 0; ta = get_or row 4 0; aa = get_or row 5 0; rmp = get_or row 6 0; rml = get_or row 7 0; lam = get_or row 8 0; gam = get_or row 9 0; rfp = get_or row 10 0; cdr = get_or row 11 0; mbtif = get_or row 12 0; mbrif = get_or row 13 0; mbim = get_or row 14 0; gif = get_or row 15 0; gim = get_or row 16 0; bcr1 = get_or row 17 0; bcr2 = get_or row 18 0; tsc = get_or row 19 0; tec = get_or row 20 0; rec = get_or row 21 0; mode = get_or row 22 0; waiting = get_or row 23 0; slot = get_or row 24 0; recovery = get_or row 25 0; options = get_or row 26 0; tso = get_or row 27 0; protection = guard; profile = kind }
 
 abbrev pub of_words : List ℕ → Block
-of_words row = of_parts row (get_or row 29 0) (get_or row 30 0)
+of_words row = of_parts row (get_or row 28 0) (get_or row 29 0)
 
 -- The words that stand from 512 on, and the two at the image's end.
 abbrev pub first_words : Block → List ℕ
 first_words b =
-    b.mc ∷ b.md ∷ b.trs ∷ b.trr ∷ b.ta ∷ b.aa ∷ b.rmp ∷ b.rml ∷ b.lam ∷ b.gam ∷ b.rfp ∷ b.cdr ∷ b.mbtif ∷ b.mbrif ∷ b.mbim ∷ b.gif ∷ b.gim ∷ b.bcr1 ∷ b.bcr2 ∷ b.tsc ∷ b.tec ∷ b.rec ∷ b.mode ∷ b.waiting ∷ b.slot ∷ b.recovery ∷ b.options ∷ b.tso ∷ b.tests ∷ []
+    b.mc ∷ b.md ∷ b.trs ∷ b.trr ∷ b.ta ∷ b.aa ∷ b.rmp ∷ b.rml ∷ b.lam ∷ b.gam ∷ b.rfp ∷ b.cdr ∷ b.mbtif ∷ b.mbrif ∷ b.mbim ∷ b.gif ∷ b.gim ∷ b.bcr1 ∷ b.bcr2 ∷ b.tsc ∷ b.tec ∷ b.rec ∷ b.mode ∷ b.waiting ∷ b.slot ∷ b.recovery ∷ b.options ∷ b.tso ∷ []
 
 abbrev pub last_words : Block → List ℕ
 last_words b = b.protection ∷ b.profile ∷ []
@@ -141,14 +141,11 @@ with_options b v = with_word b 26 v
 abbrev pub with_tso : Block → ℕ → Block
 with_tso b v = with_word b 27 v
 
-abbrev pub with_tests : Block → ℕ → Block
-with_tests b v = with_word b 28 v
-
 abbrev pub with_protection : Block → ℕ → Block
-with_protection b v = with_word b 29 v
+with_protection b v = with_word b 28 v
 
 abbrev pub with_profile : Block → ℕ → Block
-with_profile b v = with_word b 30 v
+with_profile b v = with_word b 29 v
 
 -- The image, word 22: the four modes; word 23: no mode waits; word 24: the slot is empty.
 abbrev pub normal : ℕ

@@ -3,7 +3,7 @@ use Rattle.std.specs.Prelude.{ℕ, ◌+◌, ◌%◌, Bool, cond, not, ◌&&◌, 
 use Rattle.std.specs.Int.Bits.{bit_or}
 use Rattle.bits.specs.Bit.{flag}
 use Rattle.registers.specs.declared.Block.{Block}
-use Rattle.registers.specs.Block.{with_trs, with_trr, with_gif, with_tsc, with_tec, with_rec, with_mode, with_waiting, with_recovery, with_options, with_tso, with_tests, normal, sleep, no_mode, bus_off_at}
+use Rattle.registers.specs.Block.{with_trs, with_trr, with_gif, with_tsc, with_tec, with_rec, with_mode, with_waiting, with_recovery, with_options, with_tso, normal, sleep, no_mode, bus_off_at}
 use Rattle.registers.specs.Status.{vacant, asleep, bus_off, passive, warning}
 use Rattle.registers.specs.Writes.{gif_with}
 
@@ -41,10 +41,6 @@ recessive b =
 -- The events, operation 9: MTOS and WUBA take the value.
 abbrev pub optioned : Block → ℕ → Block
 optioned b v = with_options b v
-
--- Document 02, h), operation 11: the test modes are those of the value.
-abbrev pub tested : Block → ℕ → Block
-tested b v = with_tests b v
 
 -- Sending, errors, modes: a mode that is asked for waits, in the place of an earlier one; to ask for the mode one is in leaves none
 -- waiting. Whether it is taken at once or later is the end of the step's matter.

@@ -1,6 +1,5 @@
 -- What the registers say of the unit's state.
 use Rattle.std.specs.Prelude.{Bool, not, ◌||◌, eqb, ltb}
-use Rattle.bits.specs.Bit.{bit}
 use Rattle.registers.specs.declared.Block.{Block}
 use Rattle.registers.specs.Block.{sleep, empty_slot, bus_off_at, e_can}
 
@@ -14,13 +13,6 @@ filled b = not (vacant b)
 -- Document 02, g), the profile: is it an eCAN?
 abbrev pub ecan : Block → Bool
 ecan b = eqb b.profile e_can
-
--- The image, word 28; document 02, h): is loop-back on, and is test error mode?
-abbrev pub loops_back : Block → Bool
-loops_back b = bit b.tests 0
-
-abbrev pub tests_errors : Block → Bool
-tests_errors b = bit b.tests 1
 
 abbrev pub asleep : Block → Bool
 asleep b = eqb b.mode sleep

@@ -3,7 +3,7 @@ use Rattle.std.specs.Prelude.{ℕ, Bool, cond, not, List, [], ◌∷◌, eqb, ge
 use Rattle.std.specs.Int.Bits.{bit_and, bit_or}
 use Rattle.bits.specs.Bit.{bit, without, set_bit, flag}
 use Rattle.registers.specs.declared.Block.{Block}
-use Rattle.registers.specs.Block.{with_mc, with_md, with_trs, with_trr, with_ta, with_aa, with_rmp, with_rml, with_lam, with_gam, with_rfp, with_cdr, with_mbtif, with_mbrif, with_mbim, with_gif, with_gim, with_bcr1, with_bcr2, with_tsc, with_tec, with_rec, with_tso, with_protection}
+use Rattle.registers.specs.Block.{with_mc, with_md, with_trs, with_trr, with_ta, with_aa, with_rmp, with_rml, with_lam, with_gam, with_rfp, with_cdr, with_mbtif, with_mbrif, with_mbim, with_gif, with_gim, with_bcr1, with_bcr2, with_tsc, with_tso, with_protection}
 use Rattle.registers.specs.Status.{filled, ecan}
 
 -- The mailbox in the slot, as a flag word: no bit where the slot is empty.
@@ -77,14 +77,6 @@ writes b v =
 abbrev pub protection_number : ℕ
 protection_number = 96
 
--- Document 02, h), register 33 in test error mode: TEC and REC take the value, the same for both.
-abbrev pub counters_number : ℕ
-counters_number = 33
-
-abbrev pub counting : Block → ℕ → Block
-counting b v = with_rec (with_tec b v) v
-
 -- Register t written with v; a number that is no register of the block changes nothing.
 unfoldable pub written : Block → ℕ → ℕ → Block
-written b t v =
-    cond (eqb t counters_number) (counting b v) (cond (eqb t protection_number) (with_protection b v) (get_or (writes b v) t b))
+written b t v = cond (eqb t protection_number) (with_protection b v) (get_or (writes b v) t b)

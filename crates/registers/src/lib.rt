@@ -29,7 +29,7 @@ pub const E_CAN: u32 = 1;
 // The slot when no mailbox is being sent.
 pub const EMPTY_SLOT: u32 = 32;
 
-// A field for each of the words 0 to 28, and for the two at the end of the image; the words 29 to 31 are no part of the block.
+// A field for each of the words 0 to 27, and for the two at the end of the image; the words 28 to 31 are no part of the block.
 #[derive(Clone, Copy)]
 pub struct Block {
     // 0: MC: the mailbox is enabled
@@ -88,8 +88,6 @@ pub struct Block {
     pub options: u32,
     // 27: TSO: the time stamp counter overflowed
     pub tso: u32,
-    // 28: the test modes: bit 0 loop-back, bit 1 test error
-    pub tests: u32,
     // eCAN: a mailbox that holds a frame is not overwritten
     pub protection: u32,
     // CAN_B or E_CAN
@@ -97,7 +95,7 @@ pub struct Block {
 }
 
 impl Block {
-    fn from_words(row: [u32; 29], protection: u32, profile: u32) -> Block
+    fn from_words(row: [u32; 28], protection: u32, profile: u32) -> Block
         ensures { result ≡ of_parts row protection profile }
     {
         Block {
@@ -129,13 +127,12 @@ impl Block {
             recovery: row[25],
             options: row[26],
             tso: row[27],
-            tests: row[28],
             protection,
             profile,
         }
     }
 
-    fn to_words(self) -> [u32; 29]
+    fn to_words(self) -> [u32; 28]
         ensures { result ≡ first_words self }
     {
         [
@@ -167,7 +164,6 @@ impl Block {
             self.recovery,
             self.options,
             self.tso,
-            self.tests,
         ]
     }
 

@@ -1,6 +1,6 @@
 // Counters, modes, ticks.
 ghost use Rattle.std.specs.Prelude.{◌≡◌, ◌<◌, ◌≤◌};
-ghost use Rattle.registers.specs.Modes.{at_most, on_bus, overflows, ticked as ticked_of, worsened as worsened_of, recovers, recessive as recessive_of, optioned, tested, asked, risen as risen_of, ready, entered, settled as settled_of};
+ghost use Rattle.registers.specs.Modes.{at_most, on_bus, overflows, ticked as ticked_of, worsened as worsened_of, recovers, recessive as recessive_of, optioned, asked, risen as risen_of, ready, entered, settled as settled_of};
 
 use crate::Block;
 
@@ -69,13 +69,6 @@ impl Block {
         ensures { result ≡ optioned self v }
     {
         self.options = v;
-        self
-    }
-
-    pub fn with_tests(mut self, v: u32) -> Block
-        ensures { result ≡ tested self v }
-    {
-        self.tests = v;
         self
     }
 

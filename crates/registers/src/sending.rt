@@ -24,7 +24,7 @@ impl Block {
     }
 
     // The slot's mailbox was sent.
-    pub fn send(mut self) -> Block
+    fn send(mut self) -> Block
         requires { self.slot ≤ empty_slot }
         ensures { result ≡ sent self }
     {

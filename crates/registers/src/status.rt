@@ -1,6 +1,6 @@
 // What the registers say of the unit's state.
 ghost use Rattle.std.specs.Prelude.{◌≡◌};
-ghost use Rattle.registers.specs.Status.{vacant, ecan, loops_back, tests_errors, asleep, bus_off, passive, warning};
+ghost use Rattle.registers.specs.Status.{vacant, ecan, asleep, bus_off, passive, warning};
 
 use crate::{Block, E_CAN, EMPTY_SLOT};
 
@@ -16,20 +16,6 @@ impl Block {
         ensures { result ≡ ecan self }
     {
         self.profile == E_CAN
-    }
-
-    // Is loop-back on?
-    pub fn is_looped(self) -> bool
-        ensures { result ≡ loops_back self }
-    {
-        bits::test(self.tests, 0)
-    }
-
-    // Is test error mode on?
-    pub fn is_testing_errors(self) -> bool
-        ensures { result ≡ tests_errors self }
-    {
-        bits::test(self.tests, 1)
     }
 
     pub fn is_asleep(self) -> bool

@@ -95,10 +95,6 @@ impl Block {
             17 => self.bcr1 = v,
             18 => self.bcr2 = v,
             19 => self.tsc = v,
-            33 => {
-                self.tec = v;
-                self.rec = v;
-            }
             96 => self.protection = v,
             _ => {}
         }

@@ -3,7 +3,7 @@ use Prim.Native.Nat.{ℕ, zero, suc, ◌+◌, ◌*◌, ◌/◌, ◌%◌, ◌<◌
 use mathlib.Core.Path.{◌≡◌, refl, sym, ◌∙◌, ap, subst}
 use mathlib.Core.Bool.{Bool, true, false, cond, false≢true}
 use mathlib.Core.List.{List, [], ◌∷◌, ◌++◌}
-use mathlib.Core.Logic.{◌≢◌, inr}
+use mathlib.Core.Logic.{◌≢◌}
 use native.Mathlib.Decide.{dec_lt, ℕ_discrete}
 use native.Mathlib.Omega.{arith}
 use lib.Dec.{eqb, ltb}
@@ -16,41 +16,30 @@ use Rattle.words.proofs.Bytes.{Bytes}
 use Rattle.registers.specs.declared.Block.{Block}
 use Rattle.registers.specs.Block.{block_of, put_block, last_words, to_words}
 use Rattle.registers.proofs.Laws.{Small, spare-stays, past_stays, block_back}
-use Rattle.mailboxes.specs.Mailbox.{with_mailbox}
-use Rattle.mailboxes.proofs.Laws.{word_out}
 use Rattle.mailboxes.proofs.Spliced.{byte_of, word_byte, from}
 use Rattle.rules.specs.Words.{Words, words, byte, among, Only, PROTECTION, PROFILE}
 
 -- the words of an image, by its block and by the words that are not of the block
 abbrev pub of_block : Words → Block → Words
-of_block m b k = cond (ltb k 29) (get_or (to_words b) k 0) (cond (eqb k PROTECTION) b.protection (cond (eqb k PROFILE) b.profile (m k)))
+of_block m b k = cond (ltb k 28) (get_or (to_words b) k 0) (cond (eqb k PROTECTION) b.protection (cond (eqb k PROFILE) b.profile (m k)))
 
 -- a statement of a word, by where it stands
-pub word_cases : (P : ℕ → Type 0) → ((k : ℕ) → k < 29 → P k) → P PROTECTION → P PROFILE
-    → ((k : ℕ) → 29 ≤ k → k ≢ PROTECTION → k ≢ PROFILE → P k) → (k : ℕ) → P k
-word_cases P low guard kind other k = at (ltb k 29) refl (ℕ_discrete k PROTECTION) (ℕ_discrete k PROFILE)
+pub word_cases : (P : ℕ → Type 0) → ((k : ℕ) → k < 28 → P k) → P PROTECTION → P PROFILE
+    → ((k : ℕ) → 28 ≤ k → k ≢ PROTECTION → k ≢ PROFILE → P k) → (k : ℕ) → P k
+word_cases P low guard kind other k = at (ltb k 28) refl (ℕ_discrete k PROTECTION) (ℕ_discrete k PROFILE)
   where
-    at : (t : Bool) → ltb k 29 ≡ t → Dec (k ≡ PROTECTION) → Dec (k ≡ PROFILE) → P k
-    at true p d e = low k (ltb-true k 29 p)
+    at : (t : Bool) → ltb k 28 ≡ t → Dec (k ≡ PROTECTION) → Dec (k ≡ PROFILE) → P k
+    at true p d e = low k (ltb-true k 28 p)
     at false p (yes q) e = subst P (sym q) guard
     at false p (no d) (yes q) = subst P (sym q) kind
-    at false p (no d) (no e) = other k (ltb-false k 29 p) d e
+    at false p (no d) (no e) = other k (ltb-false k 28 p) d e
 
 module _ (m : Words) (b : Block) where
-  pub of_low : (k : ℕ) → k < 29 → of_block m b k ≡ get_or (to_words b) k 0
-  of_low k h = rw (lt-ltb k 29 h)
+  pub of_low : (k : ℕ) → k < 28 → of_block m b k ≡ get_or (to_words b) k 0
+  of_low k h = rw (lt-ltb k 28 h)
 
-  pub of_other : (k : ℕ) → 29 ≤ k → k ≢ PROTECTION → k ≢ PROFILE → of_block m b k ≡ m k
-  of_other k h p q = rw (le-ltb k 29 h, ne_eqb k PROTECTION p, ne_eqb k PROFILE q)
-
--- the words of a block stand over those of an earlier one
-pub of_again : (m : Words) (a b : Block) → of_block (of_block m a) b ≡ of_block m b
-of_again m a b =
-    let same : (k : ℕ) → of_block (of_block m a) b k ≡ of_block m b k =
-    word_cases (λ k. of_block (of_block m a) b k ≡ of_block m b k)
-    (λ k h. of_low (of_block m a) b k h ∙ sym (of_low m b k h)) refl refl
-    (λ k h p q. of_other (of_block m a) b k h p q ∙ of_other m a k h p q ∙ sym (of_other m b k h p q)) in
-    λ i k. same k i
+  pub of_other : (k : ℕ) → 28 ≤ k → k ≢ PROTECTION → k ≢ PROFILE → of_block m b k ≡ m k
+  of_other k h p q = rw (le-ltb k 28 h, ne_eqb k PROTECTION p, ne_eqb k PROFILE q)
 
 -- ---- words that stay
 
@@ -66,20 +55,20 @@ old-word p new (a ∷ old) (suc k) e = old-word (λ n. p (suc n)) (drop 1 new) o
 
 -- which word of the image word j of the block is
 abbrev pub number_of : ℕ → ℕ
-number_of j = cond (ltb j 29) j (j + 35)
+number_of j = cond (ltb j 28) j (j + 36)
 
 -- the new words are the old ones but for those listed
 pub only : (l : List ℕ) (m : Words) (y x : Block) → to_words x ≡ patched (λ j. among (number_of j) l) (to_words x) (to_words y)
     → Only l (of_block m y) (of_block m x)
-only l m y x e = word_cases (λ k. among k l ≡ false → of_block m x k ≡ of_block m y k) low (old 29) (old 30) other
+only l m y x e = word_cases (λ k. among k l ≡ false → of_block m x k ≡ of_block m y k) low (old 28) (old 29) other
   where
     old : (j : ℕ) → among (number_of j) l ≡ false → get_or (to_words x) j 0 ≡ get_or (to_words y) j 0
     old j h = ap (λ (w : List ℕ). get_or w j 0) e ∙ old-word (λ j. among (number_of j) l) (to_words x) (to_words y) j h
 
-    low : (k : ℕ) → k < 29 → among k l ≡ false → of_block m x k ≡ of_block m y k
-    low k h n = of_low m x k h ∙ old k (rw (lt-ltb k 29 h) n) ∙ sym (of_low m y k h)
+    low : (k : ℕ) → k < 28 → among k l ≡ false → of_block m x k ≡ of_block m y k
+    low k h n = of_low m x k h ∙ old k (rw (lt-ltb k 28 h) n) ∙ sym (of_low m y k h)
 
-    other : (k : ℕ) → 29 ≤ k → k ≢ PROTECTION → k ≢ PROFILE → among k l ≡ false → of_block m x k ≡ of_block m y k
+    other : (k : ℕ) → 28 ≤ k → k ≢ PROTECTION → k ≢ PROFILE → among k l ≡ false → of_block m x k ≡ of_block m y k
     other k h p q n = of_other m x k h p q ∙ sym (of_other m y k h p q)
 
 pub still : (l : List ℕ) (m : Words) (y x : Block) → x ≡ y → Only l (of_block m y) (of_block m x)
@@ -88,15 +77,15 @@ still l m y x e k h = ap (λ (b : Block). of_block m b k) e
 -- ---- the words of an image by its own block, and by a block that was put
 
 module _ (s : List ℕ) where
-  row : to_words (block_of s) ≡ words_of s 512 29 ++ last_words (block_of s)
+  row : to_words (block_of s) ≡ words_of s 512 28 ++ last_words (block_of s)
   unfolding block_of words_of
   row = refl
 
-  low_word : (k : ℕ) → k < 29 → words s k ≡ get_or (to_words (block_of s)) k 0
+  low_word : (k : ℕ) → k < 28 → words s k ≡ get_or (to_words (block_of s)) k 0
   low_word k h =
-      let l = length-words s 512 29 in
-      sym (word_of s 512 29 k h)
-      ∙ sym (get_or-append (words_of s 512 29) (last_words (block_of s)) 0 k (omega arith))
+      let l = length-words s 512 28 in
+      sym (word_of s 512 28 k h)
+      ∙ sym (get_or-append (words_of s 512 28) (last_words (block_of s)) 0 k (omega arith))
       ∙ ap (λ (l : List ℕ). get_or l k 0) (sym row)
 
   pub of_block_lem : words s ≡ of_block (words s) (block_of s)
@@ -110,7 +99,7 @@ module _ (s : List ℕ) where
 
 -- the words that are not of the block stay
 module _ (s : List ℕ) (b : Block) where
-  beside_stays : (k : ℕ) → 29 ≤ k → k ≢ PROTECTION → k ≢ PROFILE → words (put_block s b) k ≡ words s k
+  beside_stays : (k : ℕ) → 28 ≤ k → k ≢ PROTECTION → k ≢ PROFILE → words (put_block s b) k ≡ words s k
   beside_stays k h p q = at (dec_lt k 64)
     where
       at : Dec (k < 64) → words (put_block s b) k ≡ words s k
@@ -128,13 +117,6 @@ module _ (s : List ℕ) (b : Block) where
       (ap (λ (w : Words). w PROFILE) (of_block_lem x) ∙ ap (λ (c : Block). c.profile) e)
       (λ k l p q. beside_stays k l p q ∙ sym (of_other (words s) b k l p q)) in
       λ i k. same k i
-
--- a mailbox that is changed leaves the words behind the mailboxes
-pub boxed : (s : List ℕ) (n : ℕ) (x : List ℕ) → n < 32 → length s ≡ 776 → length x ≡ 16 → words (with_mailbox s n x) ≡ words s
-boxed s n x l h k =
-    let same : (i : ℕ) → words (with_mailbox s n x) i ≡ words s i =
-    λ i. word_out s n x (omega (arith, h)) k (512 + 4 * i) (inr (omega arith)) in
-    λ i j. same j i
 
 -- ---- an image by its mailbox bytes and its words
 

@@ -14,12 +14,13 @@ use Rattle.registers.specs.Block.{put_block}
 use Rattle.registers.proofs.Laws.{byte-stays, word-stays}
 use Rattle.mailboxes.specs.Mailbox.{mailbox, with_mailbox}
 use Rattle.mailboxes.proofs.Laws.{length-mailbox, word_of, byte_out, word_in}
+use Rattle.good.proofs.Image.{GoodImage}
 use Rattle.rules.specs.Words.{box, BoxesStayBut}
 use Rattle.rules.specs.Writing.{BoxWrite}
 
-module _ (s : List ℕ) (h : length s ≡ 776) (n : ℕ) (there : n < 32) (b : Block) where
+module _ (s : List ℕ) (g : GoodImage s) (n : ℕ) (there : n < 32) (b : Block) where
   room : 16 * n + 16 ≤ length s
-  room = omega arith
+  room = omega (arith, g.size)
 
   abbrev m : List ℕ
   m = mailbox s n

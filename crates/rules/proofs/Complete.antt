@@ -4,7 +4,7 @@ use mathlib.Core.Path.{◌≡◌, refl, sym, ◌∙◌, ap, subst}
 use mathlib.Core.Bool.{cond, Bool, true, false, ◌&&◌}
 use mathlib.Core.List.{List, [], ◌∷◌}
 use mathlib.Core.Logic.{inl, inr}
-use native.Mathlib.Decide.{dec_lt, ℕ_discrete}
+use native.Mathlib.Decide.{dec_lt}
 use native.Mathlib.Omega.{arith}
 use lib.Dec.{ltb, eqb}
 use borrow.Author.Tests.{eqb-true}
@@ -15,7 +15,7 @@ use Rattle.registers.specs.Block.{block_of}
 use Rattle.registers.specs.Status.{ecan}
 use Rattle.mailboxes.proofs.Spliced.{byte_of, word_byte}
 use Rattle.events.specs.Parts.{frame_of}
-use Rattle.events.specs.Decode.{writable, last_outcome, event, event_as}
+use Rattle.events.specs.Decode.{last_outcome, event, event_as}
 use Rattle.events.proofs.Allowed.{Allowed}
 use Rattle.filter.specs.Filter.{delivery}
 use Rattle.filter.proofs.Ways.{Way, off_bus, no_match, stored as way_stored, replied as way_replied, ignored as way_ignored, way}
@@ -25,18 +25,18 @@ use Rattle.sending.specs.Choice.{next}
 use Rattle.sending.proofs.Choice.{next_is, next-most}
 use Rattle.answers.specs.Answer.{Outcome as Result}
 use Rattle.model.proofs.Kept.{Taken as TakenEvent, taken}
-use Rattle.rules.specs.Words.{Words, ◌has◌, ◌is◌, words, byte, box, BoxesStayBut, TRS, RMP, RML, RFP, MBRIF, GIF, REC, MODE, SLOT, OPTIONS, TESTS, COUNTERS, PROFILE, loops_back}
+use Rattle.rules.specs.Words.{Words, ◌has◌, ◌is◌, words, byte, box, BoxesStayBut, TRS, RMP, RML, RFP, MBRIF, GIF, REC, MODE, SLOT, OPTIONS, PROFILE}
 use Rattle.rules.specs.Image.{on_bus}
-use Rattle.rules.specs.Events.{operation, target, word, value, carried, echo}
+use Rattle.rules.specs.Events.{operation, target, word, value, carried}
 use Rattle.rules.specs.Writing.{BoxWrite}
 use Rattle.rules.specs.Receiving.{Stored, Frame}
 use Rattle.rules.specs.Sending.{candidate, key, Start, Ending}
-use Rattle.rules.specs.Step.{stamped, Looped, Quiet, Fails, Does, Accepted}
+use Rattle.rules.specs.Step.{stamped, Quiet, Fails, Does, Accepted}
 use Rattle.rules.proofs.Outcomes.{outcome_by}
 use Rattle.rules.proofs.Blocks.{of_block, of_block_lem, image_by}
 use Rattle.rules.proofs.Starting.{candidate-same}
 use Rattle.rules.proofs.Receiving.{first, missed}
-use Rattle.rules.proofs.Unique.{Agree, flags, by_only, tick-one, sent-one, unsent_one, ending-one, recessive-one, receive_error-one, counters-one, mode-one, write-one, reset-one}
+use Rattle.rules.proofs.Unique.{Agree, flags, by_only, tick-one, sent-one, unsent_one, ending-one, recessive-one, receive_error-one, mode-one, write-one, reset-one}
 
 -- ---- a start
 
@@ -128,35 +128,34 @@ pub record Both (a b : Words) (o u : Result) : Type 0 where
 
 -- ---- a frame
 
--- the words before a step
-abbrev before : List ℕ → Words
-before s = of_block (words s) (block_of s)
-
 module _ (s e : List ℕ) (a b : Words) (o u : Result) (bo : Bytes o.image) (bu : Bytes u.image) where
-  frame-one : Frame s e (before s) a o → Frame s e (before s) b u → Both a b o u
+  abbrev was : Words
+  was = of_block (words s) (block_of s)
+
+  frame-one : Frame s e was a o → Frame s e was b u → Both a b o u
   unfolding block_of words_of
   frame-one p q = at (way s (frame_of e))
     where
-      recs : on_bus (before s) ≡ true → a REC ≡ b REC
-      recs h = go (dec_lt 127 ((before s) REC))
+      recs : on_bus was ≡ true → a REC ≡ b REC
+      recs h = go (dec_lt 127 (was REC))
         where
-          go : Dec (127 < (before s) REC) → a REC ≡ b REC
+          go : Dec (127 < was REC) → a REC ≡ b REC
           go (yes l) = (p.heard h).rec_127 l ∙ sym ((q.heard h).rec_127 l)
           go (no l) = (p.heard h).rec_falls (omega arith) ∙ sym ((q.heard h).rec_falls (omega arith))
 
-      asleep : on_bus (before s) ≡ false → (t : Bool) → ((before s) MODE is 2 && (before s) OPTIONS has 1) ≡ t → Agree a b
-      asleep h false z = by_only (before s) a b [] (p.stays h z) (q.stays h z) tt
+      asleep : on_bus was ≡ false → (t : Bool) → (was MODE is 2 && was OPTIONS has 1) ≡ t → Agree a b
+      asleep h false z = by_only was a b [] (p.stays h z) (q.stays h z) tt
       asleep h true z =
           let x = p.wakes z in
           let y = q.wakes z in
-          by_only (before s) a b (MODE ∷ GIF ∷ []) x.2 y.2 (x.0 ∙ sym y.0, (flags (before s) a b GIF _ x.1 y.1, tt))
+          by_only was a b (MODE ∷ GIF ∷ []) x.2 y.2 (x.0 ∙ sym y.0, (flags was a b GIF _ x.1 y.1, tt))
 
       at : Way s (frame_of e) (delivery s (frame_of e)) → Both a b o u
       at (off_bus h d) =
           let x = p.unheard h in
           let y = q.unheard h in
           record {
-            same-words = asleep h ((before s) MODE is 2 && (before s) OPTIONS has 1) refl;
+            same-words = asleep h (was MODE is 2 && was OPTIONS has 1) refl;
             same-boxes = kept s o.image u.image bo bu x.1 y.1;
             same-mailbox = x.0.0 ∙ sym y.0.0;
             same_count = x.0.1 ∙ sym y.0.1;
@@ -165,7 +164,7 @@ module _ (s e : List ℕ) (a b : Words) (o u : Result) (bo : Bytes o.image) (bu 
           let x = (p.heard h).nobody (missed s e c k) in
           let y = (q.heard h).nobody (missed s e c k) in
           record {
-            same-words = by_only (before s) a b (REC ∷ []) x.2 y.2 (recs h, tt);
+            same-words = by_only was a b (REC ∷ []) x.2 y.2 (recs h, tt);
             same-boxes = kept s o.image u.image bo bu x.1 y.1;
             same-mailbox = x.0.0 ∙ sym y.0.0;
             same_count = x.0.1 ∙ sym y.0.1;
@@ -175,9 +174,9 @@ module _ (s e : List ℕ) (a b : Words) (o u : Result) (bo : Bytes o.image) (bu 
           let y = (q.heard h).stored k.place n (first s e n c k) r in
           record {
             same-words =
-                by_only (before s) a b (RML ∷ RMP ∷ MBRIF ∷ RFP ∷ GIF ∷ REC ∷ []) x.1.rest y.1.rest
-                (flags (before s) a b RML _ x.1.rml y.1.rml, (flags (before s) a b RMP _ x.1.rmp y.1.rmp, (flags (before s) a b MBRIF _ x.1.mbrif y.1.mbrif, (flags (before s) a b RFP _ x.1.rfp y.1.rfp, (flags (before s) a b GIF _ x.1.gif y.1.gif, (recs h, tt))))));
-            same-boxes = stored-boxes s o.image u.image bo bu e n (before s) a b x.1 y.1;
+                by_only was a b (RML ∷ RMP ∷ MBRIF ∷ RFP ∷ GIF ∷ REC ∷ []) x.1.rest y.1.rest
+                (flags was a b RML _ x.1.rml y.1.rml, (flags was a b RMP _ x.1.rmp y.1.rmp, (flags was a b MBRIF _ x.1.mbrif y.1.mbrif, (flags was a b RFP _ x.1.rfp y.1.rfp, (flags was a b GIF _ x.1.gif y.1.gif, (recs h, tt))))));
+            same-boxes = stored-boxes s o.image u.image bo bu e n was a b x.1 y.1;
             same-mailbox = x.0.0 ∙ sym y.0.0;
             same_count = x.0.1 ∙ sym y.0.1;
           }
@@ -185,7 +184,7 @@ module _ (s e : List ℕ) (a b : Words) (o u : Result) (bo : Bytes o.image) (bu 
           let x = (p.heard h).replied k.place n (first s e n c k) r v in
           let y = (q.heard h).replied k.place n (first s e n c k) r v in
           record {
-            same-words = by_only (before s) a b (TRS ∷ REC ∷ []) x.3 y.3 (flags (before s) a b TRS _ x.2 y.2, (recs h, tt));
+            same-words = by_only was a b (TRS ∷ REC ∷ []) x.3 y.3 (flags was a b TRS _ x.2 y.2, (recs h, tt));
             same-boxes = kept s o.image u.image bo bu x.1 y.1;
             same-mailbox = x.0.0 ∙ sym y.0.0;
             same_count = x.0.1 ∙ sym y.0.1;
@@ -194,41 +193,13 @@ module _ (s e : List ℕ) (a b : Words) (o u : Result) (bo : Bytes o.image) (bu 
           let x = (p.heard h).ignored k.place n (first s e n c k) r v in
           let y = (q.heard h).ignored k.place n (first s e n c k) r v in
           record {
-            same-words = by_only (before s) a b (REC ∷ []) x.2 y.2 (recs h, tt);
+            same-words = by_only was a b (REC ∷ []) x.2 y.2 (recs h, tt);
             same-boxes = kept s o.image u.image bo bu x.1 y.1;
             same-mailbox = x.0.0 ∙ sym y.0.0;
             same_count = x.0.1 ∙ sym y.0.1;
           }
 
--- ---- a sending in loop-back
-
-module _ (s : List ℕ) (a b : Words) (o u : Result) (bo : Bytes o.image) (bu : Bytes u.image) where
-  -- the image between is one, and so is what the frame leaves of it
-  looped-one : Looped s (before s) a o → Looped s (before s) b u → Both a b o u
-  looped-one p q =
-      let x = p.between in
-      let z = q.between in
-      let bx : Bytes x = record { small = p.size.1 } in
-      let bz : Bytes z = record { small = q.size.1 } in
-      let same : z ≡ x =
-      image_by z x q.size.0 p.size.0 bz bx
-      (box-write-one s z x bz bx (before s SLOT) 1 (stamped s (before s SLOT)) q.sends.1 p.sends.1)
-      (sent-one (before s) (words z) (words x) q.sends.0 p.sends.0) in
-      let e = echo s (before s SLOT) in
-      let heard : List ℕ → Words → ℕ → Result → Type 0 =
-      λ y w n r. Frame y e (words y) w (record { image = r.image; refusal = 0; mailbox = n; count = r.count }) in
-      let at_x : heard x b q.receiver u = subst (λ (y : List ℕ). heard y b q.receiver u) same q.hears in
-      let own : (w : Words) (r : Result) → Frame x e (words x) w r → Frame x e (before x) w r = λ w r. subst (λ (v : Words). Frame x e v w r) (of_block_lem x) in
-      let f =
-      frame-one x e a b (record { image = o.image; refusal = 0; mailbox = p.receiver; count = o.count }) (record { image = u.image; refusal = 0; mailbox = q.receiver; count = u.count }) bo bu
-      (own a _ p.hears) (own b _ at_x) in
-      record { same-words = f.same-words; same-boxes = f.same-boxes; same-mailbox = p.names ∙ sym q.names; same_count = f.same_count }
-
-module _ (s e : List ℕ) (a b : Words) (o u : Result) (bo : Bytes o.image) (bu : Bytes u.image) where
   -- ---- the other operations
-
-  abbrev was : Words
-  was = before s
 
   quiet_one : Agree a b → Quiet s o → Quiet s u → Both a b o u
   quiet_one h x y =
@@ -277,19 +248,15 @@ module _ (s e : List ℕ) (a b : Words) (o u : Result) (bo : Bytes o.image) (bu 
             }
 
         at : (k : ℕ) → target e ≡ k → Both a b o u
-        at zero z = sent_both (loops_back was) refl
-          where
-            sent_both : (t : Bool) → loops_back was ≡ t → Both a b o u
-            sent_both true on = looped-one s a b o u bo bu (p.looped h z on) (q.looped h z on)
-            sent_both false off =
-                let x = p.sent h z off in
-                let y = q.sent h z off in
-                record {
-                  same-words = sent-one was a b x.0.0 y.0.0;
-                  same-boxes = box-write-one s o.image u.image bo bu (was SLOT) 1 (stamped s (was SLOT)) x.0.1 y.0.1;
-                  same-mailbox = x.1.0 ∙ sym y.1.0;
-                  same_count = x.1.1 ∙ sym y.1.1;
-                }
+        at zero z =
+            let x = p.sent h z in
+            let y = q.sent h z in
+            record {
+              same-words = sent-one was a b x.0 y.0;
+              same-boxes = box-write-one s o.image u.image bo bu (was SLOT) 1 (stamped s (was SLOT)) x.1 y.1;
+              same-mailbox = x.2.0 ∙ sym y.2.0;
+              same_count = x.2.1 ∙ sym y.2.1;
+            }
         at (suc zero) z = unsent_both _ (p.lost h z) (q.lost h z)
         at (suc (suc zero)) z = unsent_both _ (p.error h z) (q.error h z)
         at (suc (suc (suc zero))) z = unsent_both _ (p.unacknowledged h z) (q.unacknowledged h z)
@@ -315,13 +282,9 @@ module _ (s e : List ℕ) (a b : Words) (o u : Result) (bo : Bytes o.image) (bu 
         at : (k : ℕ) → operation e ≡ k → Both a b o u
         at zero h =
             let f = fair 0 h in
-            quiet_one (written (ℕ_discrete (target e) COUNTERS) f.known) (p.register h).1 (q.register h).1
-          where
-            written : Dec (target e ≡ COUNTERS) → writable (target e) ≡ true → Agree a b
-            written (yes z) k = counters-one was a b (value e) (p.counters h z) (q.counters h z)
-            written (no z) k = write-one was a b (value e) (target e) k z (p.register h).0 (q.register h).0
+            quiet_one (write-one was a b (value e) (target e) f.known (p.register h).0 (q.register h).0) (p.register h).1 (q.register h).1
         at (suc zero) h = mailbox_both h
-        at (suc (suc zero)) h = frame-one s e a b o u bo bu (p.frame h) (q.frame h)
+        at (suc (suc zero)) h = frame-one (p.frame h) (q.frame h)
         at (suc (suc (suc zero))) h = start_both h
         at (suc (suc (suc (suc zero)))) h = outcome_both h
         at (suc (suc (suc (suc (suc zero))))) h =
@@ -338,11 +301,7 @@ module _ (s e : List ℕ) (a b : Words) (o u : Result) (bo : Bytes o.image) (bu 
             quiet_one (by_only was a b (OPTIONS ∷ []) x.1 y.1 (x.0 ∙ sym y.0, tt)) x.2 y.2
         at (suc (suc (suc (suc (suc (suc (suc (suc (suc (suc zero)))))))))) h =
             quiet_one (reset-one (was PROFILE) a b (p.reset h).0 (q.reset h).0) (p.reset h).1 (q.reset h).1
-        at (suc (suc (suc (suc (suc (suc (suc (suc (suc (suc (suc zero))))))))))) h =
-            let x = p.tests h in
-            let y = q.tests h in
-            quiet_one (by_only was a b (TESTS ∷ []) x.1 y.1 (x.0 ∙ sym y.0, tt)) x.2 y.2
-        at (suc (suc (suc (suc (suc (suc (suc (suc (suc (suc (suc (suc k)))))))))))) h = absurd (fair (suc (suc (suc (suc (suc (suc (suc (suc (suc (suc (suc (suc k)))))))))))) h)
+        at (suc (suc (suc (suc (suc (suc (suc (suc (suc (suc (suc k))))))))))) h = absurd (fair (suc (suc (suc (suc (suc (suc (suc (suc (suc (suc (suc k))))))))))) h)
 
 -- ---- the whole
 

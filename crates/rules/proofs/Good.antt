@@ -63,7 +63,7 @@ module _ (s : List ℕ) (b : Bytes s) (h : Good s) where
 
   spare_test : good_spare s ≡ true
   unfolding good_spare
-  spare_test = holds (spare_words s) (eq-eqb _ _ q.spare.0, (eq-eqb _ _ q.spare.1, (eq-eqb _ _ q.spare.2, tt)))
+  spare_test = holds (spare_words s) (eq-eqb _ _ q.spare.0, (eq-eqb _ _ q.spare.1, (eq-eqb _ _ q.spare.2, (eq-eqb _ _ q.spare.3, tt))))
 
   mask_test : (n : ℕ) → n < 32 → good_mask s n ≡ true
   mask_test n l =

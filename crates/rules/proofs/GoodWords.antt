@@ -118,8 +118,8 @@ module _ (s : List ℕ) (g : GoodImage s) where
         gif = (r.gif, r.gim);
         bcr = (r.bcr1, r.bcr2);
         counters = (r.tsc, r.tec, r.rec);
-        states = (r.mode, g.block.waits.most, r.slot, r.recovery, r.options, r.tso, r.tests);
-        spare = (eqb-true _ _ p.0, eqb-true _ _ p.1.0, eqb-true _ _ p.1.1.0);
+        states = (r.mode, g.block.waits.most, r.slot, r.recovery, r.options, r.tso);
+        spare = (eqb-true _ _ p.0, eqb-true _ _ p.1.0, eqb-true _ _ p.1.1.0, eqb-true _ _ p.1.1.1.0);
         filled = λ h. let x = k.slotted h in (x.mode, x.tec, x.trs, x.mc);
         at_bus_off = k.off;
         recovers = k.recovering;
@@ -168,7 +168,7 @@ module _ (s : List ℕ) (b : Bytes s) (h : Good s) where
         rfp = record { has = λ n. q.rml_rfp RFP n refl };
         lam = gap (word_at s 544) (q.masks LAM refl).0 (q.masks LAM refl).1;
         gam = gap (word_at s 548) (q.masks GAM refl).0 (q.masks GAM refl).1;
-        ranges = record { gif = q.gif.0; gim = q.gif.1; bcr1 = q.bcr.0; bcr2 = q.bcr.1; tsc = q.counters.0; tec = q.counters.1; rec = q.counters.2; mode = q.states.0; slot = q.states.2; recovery = q.states.3; options = q.states.4; tso = q.states.5; tests = q.states.6; profile = q.profile };
+        ranges = record { gif = q.gif.0; gim = q.gif.1; bcr1 = q.bcr.0; bcr2 = q.bcr.1; tsc = q.counters.0; tec = q.counters.1; rec = q.counters.2; mode = q.states.0; slot = q.states.2; recovery = q.states.3; options = q.states.4; tso = q.states.5; profile = q.profile };
         slotted = λ e. let x = q.filled e in record { mode = x.0; tec = x.1; trs = x.2; mc = x.3 };
         off = q.at_bus_off;
         recovering = q.recovers;

@@ -6,8 +6,6 @@ pub mod Starting
 pub mod Writing
 pub mod Boxes
 pub mod Receiving
-pub mod Echo
-pub mod Loops
 pub mod Meets
 pub mod Outcomes
 pub mod Unique
@@ -25,5 +23,4 @@ pub mod Listing
 pub mod Exact
 pub mod Call
 pub mod Calls
-pub mod Changes
 pub mod Demands

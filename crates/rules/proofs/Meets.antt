@@ -1,12 +1,12 @@
 -- An accepted step meets the rulebook.
-use Prim.Native.Nat.{ℕ, ◌+◌, ◌-◌, ◌*◌, ◌^◌, ◌<◌, ◌≤◌}
-use mathlib.Core.Path.{◌≡◌, refl, sym, ◌∙◌, ap, ap₂, subst}
+use Prim.Native.Nat.{ℕ, ◌+◌, ◌-◌, ◌*◌, ◌%◌, ◌^◌, ◌<◌, ◌≤◌}
+use mathlib.Core.Path.{◌≡◌, refl, sym, ◌∙◌, ap, subst}
 use mathlib.Core.Bool.{Bool, true, false, cond}
 use mathlib.Core.List.{List, [], ◌∷◌}
-use mathlib.Core.Logic.{◌≢◌, inl}
-use native.Mathlib.Decide.{dec_lt, ℕ_discrete}
+use mathlib.Core.Logic.{◌≢◌, inl, inr}
+use native.Mathlib.Decide.{dec_lt}
 use native.Mathlib.Omega.{arith}
-use lib.Dec.{leb, lit<}
+use lib.Dec.{leb, lit<, lit≤}
 use lib.ListN.{get_or, length, replicate, get_or-eq_default}
 use borrow.Author.Tests.{eqb-true, leb-true}
 use Rattle.bits.proofs.Tests.{all}
@@ -16,53 +16,55 @@ use Rattle.words.proofs.Laws.{length-put, byte-other}
 use Rattle.words.proofs.Rows.{word_of_put, byte-before-put}
 use Rattle.words.proofs.Bytes.{Bytes, word_lt}
 use Rattle.registers.specs.declared.Block.{Block}
-use Rattle.registers.specs.Block.{block_of, put_block, empty_slot}
-use Rattle.registers.specs.Status.{loops_back}
+use Rattle.registers.specs.Block.{block_of, empty_slot}
 use Rattle.registers.specs.Modes.{risen}
 use Rattle.registers.specs.Writes.{written}
 use Rattle.registers.specs.Sending.{concluded}
 use Rattle.registers.proofs.Laws.{byte-stays}
 use Rattle.registers.proofs.Table.{written_none}
-use Rattle.mailboxes.specs.Mailbox.{mailbox}
-use Rattle.mailboxes.proofs.Laws.{length-mailbox}
+use Rattle.mailboxes.specs.Mailbox.{mailbox, with_mailbox}
+use Rattle.mailboxes.specs.Filing as Filing
+use Rattle.mailboxes.proofs.Laws.{length-mailbox, word_of, word_out}
+use Rattle.mailboxes.proofs.Filed.{length-filed, length-stamped}
 use Rattle.events.specs.declared.Event.{Event}
-use Rattle.events.specs.declared.Event.TheVariants.{Register, Mailbox, Heard, Start as Started, Outcome as Concluded, ReceiveError as Worse, Recessive as Eleven, Tick as Ticks, Mode as Asks, Options as Opts, Reset as Resets, Tests as Switch}
+use Rattle.events.specs.declared.Event.TheVariants.{Register, Mailbox, Heard, Start as Started, Outcome as Concluded, ReceiveError as Worse, Recessive as Eleven, Tick as Ticks, Mode as Asks, Options as Opts, Reset as Resets}
 use Rattle.events.specs.Parts.{frame_of}
 use Rattle.events.specs.Decode.{is_mask, event, event_as}
 use Rattle.events.proofs.Laws.{each}
+use Rattle.filter.specs.declared.Delivery.{Delivery}
+use Rattle.filter.specs.declared.Delivery.TheVariants.{Into, Reply, Nowhere}
 use Rattle.filter.specs.Filter.{delivery}
+use Rattle.filter.proofs.Ways.{into}
 use Rattle.good.specs.Good.{good_spare, spare_words, good_image}
 use Rattle.good.proofs.Image.{GoodImage, small}
 use Rattle.refusals.specs.Refusal.{refusal}
 use Rattle.answers.specs.Answer.{Outcome as Result}
 use Rattle.model.specs.Step.{own, goes, delivered, acted, block_after, stowed, postmarked, rewritten, masked, unmasked, beside_after, named, accepted}
-use Rattle.model.proofs.Housed.{housed}
 use Rattle.model.proofs.Kept.{Taken as TakenEvent, taken, outcome-slot, boxes-after, block_after_lem, accepted-good}
-use Rattle.rules.specs.Words.{Words, words, Only, BoxesStayBut, at_most, TEC, OPTIONS, TESTS, COUNTERS, PROTECTION, PROFILE}
+use Rattle.rules.specs.Words.{Words, words, Only, BoxesStayBut, at_most, TEC, OPTIONS, PROTECTION, PROFILE}
 use Rattle.rules.specs.Events.{operation, target, word, value, Answers}
 use Rattle.rules.specs.Writing.{Write, BoxWrite}
 use Rattle.rules.specs.Receiving.{Frame}
-use Rattle.rules.specs.Sending.{Start, Sent, unacknowledged_tec, Counters, ReceiveError, Recessive, Tick, Mode, Ending}
+use Rattle.rules.specs.Sending.{Start, Sent, unacknowledged_tec, ReceiveError, Recessive, Tick, Mode, Ending}
 use Rattle.rules.specs.Fresh.{FreshWords}
-use Rattle.rules.specs.Step.{stamped, Sends, Looped, Quiet, Fails, Does, Accepted}
-use Rattle.rules.proofs.Blocks.{of_block, of_block_lem, put-words, boxed}
-use Rattle.rules.proofs.Sending.{tick, recessive_bits, receive_error, counters-taken, mode-asked, options-taken, tests-taken, zeros, fresh-rule, sending, losing, erring, unacknowledged, ending}
+use Rattle.rules.specs.Step.{stamped, Quiet, Fails, Does, Accepted}
+use Rattle.rules.proofs.Blocks.{of_block, of_block_lem, put-words}
+use Rattle.rules.proofs.Sending.{tick, recessive_bits, receive_error, mode-asked, options-taken, zeros, fresh-rule, sending, losing, erring, unacknowledged, ending}
 use Rattle.rules.proofs.Starting.{start}
-use Rattle.rules.proofs.Writing.{write_step, counters-write, mask-write}
+use Rattle.rules.proofs.Writing.{write_step, mask-write}
 use Rattle.rules.proofs.Boxes.{box-write}
-use Rattle.rules.proofs.Receiving.{good-lent, left, frame}
-use Rattle.rules.proofs.Loops.{stowed-words, stamps, postmarked-words, does-looped}
+use Rattle.rules.proofs.Receiving.{left, frame}
 use Rattle.model.proofs.Meets.{calm}
 
 -- ---- what is zero behind the mailboxes
 
-spare-zero : (s : List ℕ) → good_spare s ≡ true → (k : ℕ) → 29 ≤ k → k < 32 → words s k ≡ 0
+spare-zero : (s : List ℕ) → good_spare s ≡ true → (k : ℕ) → 28 ≤ k → k < 32 → words s k ≡ 0
 unfolding good_spare
 spare-zero s h k l u =
     let p = all (spare_words s) h in
-    let e : 29 + (k - 29) ≡ k = omega arith in
+    let e : 28 + (k - 28) ≡ k = omega arith in
     subst (λ (j : ℕ). words s j ≡ 0) e
-    (each (λ j. words s (29 + j) ≡ 0) 3 (((tt, eqb-true _ _ p.0), eqb-true _ _ p.1.0), eqb-true _ _ p.1.1.0) (k - 29) (omega arith))
+    (each (λ j. words s (28 + j) ≡ 0) 4 ((((tt, eqb-true _ _ p.0), eqb-true _ _ p.1.0), eqb-true _ _ p.1.1.0), eqb-true _ _ p.1.1.1.0) (k - 28) (omega arith))
 
 past_zero : (s : List ℕ) → length s ≡ 776 → (k : ℕ) → 66 ≤ k → words s k ≡ 0
 unfolding word_at
@@ -97,13 +99,20 @@ module _ (s : List ℕ) where
   unfolding accepted
   stay v q i l o = byte-stays (beside_after s v) (block_after s v) i l ∙ ap (λ (y : List ℕ). get_or y i 0) q
 
+  -- a mailbox that is changed leaves the words behind the mailboxes
+  boxed : (n : ℕ) (x : List ℕ) → n < 32 → GoodImage s → length x ≡ 16 → words (with_mailbox s n x) ≡ words s
+  boxed n x l g k =
+      let same : (i : ℕ) → words (with_mailbox s n x) i ≡ words s i =
+      λ i. word_out s n x (omega (arith, g.size)) k (512 + 4 * i) (inr (omega arith)) in
+      λ i j. same j i
+
   fits : GoodImage s → b.trs < 2 ^ 32
   unfolding block_of words_of
   fits g = word_lt s g.bytes 520
 
   -- a mask write leaves the block, any other one the masks
   does-register : (t v : ℕ) → TakenEvent s (Register t v) → Write t v (of_block m b) (mid (Register t v)) × Quiet s (accepted s (Register t v))
-  unfolding own goes delivered stowed beside_after accepted named masked
+  unfolding own goes delivered beside_after accepted named masked
   does-register t v k = (
     at (is_mask t) refl,
     (
@@ -119,46 +128,49 @@ module _ (s : List ℕ) where
       at : (u : Bool) → is_mask t ≡ u → Write t v (of_block m b) (mid (Register t v))
       at false e =
           subst (λ (x : List ℕ). Write t v (of_block m b) (of_block (words x) (risen b (written b t v)))) (rw e)
-          (unmasked (ℕ_discrete t COUNTERS))
-        where
-          unmasked : Dec (t ≡ COUNTERS) → Write t v (of_block m b) (of_block m (risen b (written b t v)))
-          unmasked (yes q) = subst (λ (r : ℕ). Write r v (of_block m b) (of_block m (risen b (written b t v)))) (sym q) (counters-write v _ _)
-          unmasked (no q) = write_step m b v (fits k.good) t e q
+          (write_step m b v (fits k.good) t e)
       at true e =
           let l = leb-true 64 t (and_l (leb 64 t) (leb t 95) e) in
           let u = leb-true t 95 (and_r (leb 64 t) (leb t 95) e) in
-          let z : risen b (written b t v) ≡ b = ap (risen b) (written_none b t v (omega arith) (λ q. omega arith) (λ q. omega arith)) ∙ calm b b refl (omega arith) in
+          let z : risen b (written b t v) ≡ b = ap (risen b) (written_none b t v (omega arith) (λ q. omega arith)) ∙ calm b b refl (omega arith) in
           subst (λ (x : Block). Write t v (of_block m b) (of_block (words (masked s t v)) x)) (sym z)
           (mask-write s k.good.size b t v e k.fair.small)
 
-  does-counters : (t v : ℕ) → TakenEvent s (Register t v) → t ≡ COUNTERS → Counters v (of_block m b) (mid (Register t v))
-  unfolding own goes delivered stowed beside_after masked written
-  does-counters t v k e = subst (λ (r : ℕ). Counters v (of_block m b) (mid (Register r v))) (sym e) (counters-taken m b v)
-
   does-mailbox : (n j v : ℕ) → TakenEvent s (Mailbox n j v)
       → BoxWrite n j v s (accepted s (Mailbox n j v)).image × Only [] (of_block m b) (mid (Mailbox n j v)) × Answers 32 0 (accepted s (Mailbox n j v))
-  unfolding own goes delivered stowed beside_after rewritten accepted named
+  unfolding own goes delivered beside_after rewritten accepted named
   does-mailbox n j v k = (
-    box-write s k.good.size n k.fair.known (block_after s (Mailbox n j v)) j v k.fair.word_known k.fair.small,
+    box-write s k.good n k.fair.known (block_after s (Mailbox n j v)) j v k.fair.word_known k.fair.small,
     λ i o.
-        ap (λ (w : Words). of_block w (risen b b) i) (boxed s n _ k.fair.known k.good.size (length-put (mailbox s n) (4 * j) v ∙ length-mailbox s n (omega (arith, k.good.size, k.fair.known))))
+        ap (λ (w : Words). of_block w (risen b b) i) (boxed n _ k.fair.known k.good (length-put (mailbox s n) (4 * j) v ∙ length-mailbox s n (omega (arith, k.good.size, k.fair.known))))
         ∙ ap (λ (x : Block). of_block m x i) (calm b b refl (omega arith)),
     (refl, refl),
   )
 
   does-start : TakenEvent s Started → Start s (of_block m b) (mid Started) (accepted s Started).mailbox × ((accepted s Started).count ≡ 0) × BoxesStayBut 32 s (accepted s Started).image
-  unfolding own goes delivered stowed beside_after accepted named
+  unfolding own goes delivered beside_after accepted named
   does-start k = (start s m, refl, stay Started refl)
 
   full : (j : ℕ) → TakenEvent s (Concluded j) → b.slot ≢ empty_slot
   full = outcome-slot s
 
   does-tick : TakenEvent s Ticks → Tick (of_block m b) (mid Ticks) × Quiet s (accepted s Ticks)
-  unfolding own goes delivered stowed beside_after accepted named
+  unfolding own goes delivered beside_after accepted named
   does-tick k = (tick m b k.good.block.core.ranges.tsc, ((refl, refl), stay Ticks refl))
 
   in_slot_lem : (j : ℕ) → TakenEvent s (Concluded j) → b.slot < 32
   in_slot_lem j k = let d = full j k in omega (arith, k.good.block.core.ranges.slot)
+
+  stamps : TakenEvent s (Concluded 0) → BoxWrite b.slot 1 (stamped s b.slot) s (accepted s (Concluded 0)).image
+  unfolding accepted beside_after postmarked Filing.stamped block_of words_of
+  stamps k =
+      let g = k.good in
+      let n = b.slot in
+      let r = g.block.core.ranges in
+      let v = b.tsc * 2 ^ 16 + word_at (mailbox s n) 4 % 2 ^ 16 in
+      let e : v ≡ stamped s n = ap (λ (w : ℕ). b.tsc * 2 ^ 16 + w % 2 ^ 16) (word_of s n 4 (lit≤ tt)) in
+      subst (λ (w : ℕ). BoxWrite n 1 w s (accepted s (Concluded 0)).image) e
+      (box-write s g n (in_slot_lem 0 k) (block_after s (Concluded 0)) 1 v (lit≤ tt) (omega (arith, r.tsc)))
 
   -- an outcome, by its number
   of_kind : (j k : ℕ) (P : Event → Type 0) → (TakenEvent s (Concluded k) → P (Concluded k)) → TakenEvent s (Concluded j) → j ≡ k → P (Concluded j)
@@ -166,56 +178,47 @@ module _ (s : List ℕ) where
       let same : Concluded j ≡ Concluded k = ap Concluded e in
       subst P (sym same) (h (subst (TakenEvent s) same t))
 
-  does-sent : TakenEvent s (Concluded 0) → loops_back b ≡ false
-      → Sends s (of_block m b) (mid (Concluded 0)) (accepted s (Concluded 0)).image × Answers b.slot 0 (accepted s (Concluded 0))
-  unfolding own goes delivered stowed beside_after accepted named
-  does-sent k off = (
-    (
-      subst (λ (w : Words). Sent (of_block m b) w) (ap₂ of_block (sym (ap words beside ∙ postmarked-words s k.good (in_slot_lem 0 k))) (ap (risen b) (sym alone)))
-          (sending m b (full 0 k) k.good.block.core.ranges.tec),
-      subst (λ (x : List ℕ). BoxWrite b.slot 1 (stamped s b.slot) s (put_block x (block_after s (Concluded 0)))) (sym beside)
-          (stamps s k.good (in_slot_lem 0 k) (block_after s (Concluded 0))),
-    ),
-    (refl, rw off),
+  does-sent : TakenEvent s (Concluded 0) → Sent (of_block m b) (mid (Concluded 0)) × BoxWrite b.slot 1 (stamped s b.slot) s (accepted s (Concluded 0)).image × Answers b.slot 0 (accepted s (Concluded 0))
+  unfolding own goes delivered accepted named beside_after postmarked
+  does-sent k = (
+    subst (λ (w : Words). Sent (of_block m b) (of_block w (risen b (concluded b 0))))
+        (sym (boxed b.slot _ (in_slot_lem 0 k) k.good (length-stamped (mailbox s b.slot) b.tsc ∙ length-mailbox s b.slot (omega (arith, k.good.size, in_slot_lem 0 k)))))
+        (sending m b (full 0 k) k.good.block.core.ranges.tec),
+    stamps k,
+    (refl, refl),
   )
-    where
-      beside : beside_after s (Concluded 0) ≡ postmarked s
-      beside = rw off
-
-      alone : acted s (Concluded 0) ≡ concluded b 0
-      alone = rw off
 
   does-lost : TakenEvent s (Concluded 1) → Fails b.tec s (of_block m b) (mid (Concluded 1)) (accepted s (Concluded 1))
-  unfolding own goes delivered stowed beside_after accepted named
+  unfolding own goes delivered accepted named beside_after
   does-lost k = (losing m b (full 1 k) k.good.block.core.ranges.tec, stay (Concluded 1) refl, (refl, refl))
 
   does-fail : TakenEvent s (Concluded 2) → Fails (at_most 256 (b.tec + 8)) s (of_block m b) (mid (Concluded 2)) (accepted s (Concluded 2))
-  unfolding own goes delivered stowed beside_after accepted named
+  unfolding own goes delivered accepted named beside_after
   does-fail k = (erring m b (full 2 k) k.good.block.core.ranges.tec, stay (Concluded 2) refl, (refl, refl))
 
   does-unacknowledged : TakenEvent s (Concluded 3) → Fails (unacknowledged_tec (of_block m b)) s (of_block m b) (mid (Concluded 3)) (accepted s (Concluded 3))
-  unfolding own goes delivered stowed beside_after accepted named
+  unfolding own goes delivered accepted named beside_after
   does-unacknowledged k = (unacknowledged m b (full 3 k) k.good.block.core.ranges.tec, stay (Concluded 3) refl, (refl, refl))
 
   does-error : (v : ℕ) → TakenEvent s (Worse v) → ReceiveError v (of_block m b) (mid (Worse v)) × Quiet s (accepted s (Worse v))
-  unfolding own goes delivered stowed beside_after accepted named
+  unfolding own goes delivered beside_after accepted named
   does-error v k = (receive_error m b v, ((refl, refl), stay (Worse v) refl))
 
   does-recessive : TakenEvent s Eleven → Recessive (of_block m b) (mid Eleven) × Quiet s (accepted s Eleven)
-  unfolding own goes delivered stowed beside_after accepted named
+  unfolding own goes delivered beside_after accepted named
   does-recessive k = (recessive_bits m b, ((refl, refl), stay Eleven refl))
 
   does-mode : (v : ℕ) → TakenEvent s (Asks v) → Mode v (of_block m b) (mid (Asks v)) × Quiet s (accepted s (Asks v))
-  unfolding own goes delivered stowed beside_after accepted named
+  unfolding own goes delivered beside_after accepted named
   does-mode v k = (mode-asked m b v, ((refl, refl), stay (Asks v) refl))
 
   does-options : (v : ℕ) → TakenEvent s (Opts v) → (mid (Opts v) OPTIONS ≡ v) × Only (OPTIONS ∷ []) (of_block m b) (mid (Opts v)) × Quiet s (accepted s (Opts v))
-  unfolding own goes delivered stowed beside_after accepted named
+  unfolding own goes delivered beside_after accepted named
   does-options v k = let o = options-taken m b v in (o.0, o.1, ((refl, refl), stay (Opts v) refl))
 
   -- what a reset leaves beside the block: zeros
-  cleared : TakenEvent s Resets → (k : ℕ) → 29 ≤ k → k ≢ PROTECTION → k ≢ PROFILE → words (unmasked s) k ≡ 0
-  unfolding goes stowed beside_after
+  cleared : TakenEvent s Resets → (k : ℕ) → 28 ≤ k → k ≢ PROTECTION → k ≢ PROFILE → words (unmasked s) k ≡ 0
+  unfolding beside_after
   cleared t k l p q = at (dec_lt k 32) (dec_lt k 64)
     where
       x : GoodImage (unmasked s)
@@ -227,22 +230,24 @@ module _ (s : List ℕ) where
       at (no h) (no e) = past_zero (unmasked s) x.size k (omega arith)
 
   does-reset : TakenEvent s Resets → FreshWords b.profile (mid Resets) × Quiet s (accepted s Resets)
-  unfolding own goes delivered stowed beside_after accepted named
+  unfolding own goes delivered beside_after accepted named
   does-reset k = (
     fresh-rule (words (unmasked s)) (cleared k) b.profile b,
     ((refl, refl), λ i l o. byte-stays (unmasked s) (block_after s Resets) i l ∙ zeros_byte s i l),
   )
 
-  does-tests : (v : ℕ) → TakenEvent s (Switch v) → (mid (Switch v) TESTS ≡ v) × Only (TESTS ∷ []) (of_block m b) (mid (Switch v)) × Quiet s (accepted s (Switch v))
-  unfolding own goes delivered stowed beside_after accepted named
-  does-tests v k = let o = tests-taken m b v in (o.0, o.1, ((refl, refl), stay (Switch v) refl))
-
   does-frame : (e : List ℕ) → Bytes e → TakenEvent s (Heard (frame_of e)) → Frame s e (of_block m b) (mid (Heard (frame_of e))) (accepted s (Heard (frame_of e)))
-  unfolding own goes beside_after accepted named block_after frame_of
+  unfolding own goes beside_after stowed accepted named block_after frame_of
   does-frame e y k =
-      let g = good-lent s k.good in
-      subst (λ (w : Words). Frame s e (of_block m b) (of_block w (left s e g y k.fair.fits (delivery s (frame_of e)))) (accepted s (Heard (frame_of e))))
-      (sym (stowed-words s k.good.size (frame_of e) (delivery s (frame_of e)) (housed s (frame_of e)))) (frame s e g y k.fair.fits)
+      subst (λ (w : Words). Frame s e (of_block m b) (of_block w (left s e k.good y k.fair (delivery s (frame_of e)))) (accepted s (Heard (frame_of e))))
+      (sym (stowed-words (delivery s (frame_of e)) refl)) (frame s e k.good y k.fair)
+    where
+      stowed-words : (d : Delivery) → delivery s (frame_of e) ≡ d → words (stowed s (frame_of e) d) ≡ words s
+      stowed-words (Into n c) q =
+          let l = (into s (frame_of e) n c q).first.there in
+          boxed n _ l k.good (length-filed (mailbox s n) _ _ _ _ _ _ ∙ length-mailbox s n (omega (arith, k.good.size)))
+      stowed-words (Reply n c) q = refl
+      stowed-words (Nowhere c) q = refl
 
 -- ---- all operations
 
@@ -270,15 +275,15 @@ module _ (s e : List ℕ) (bytes : Bytes s) (small_bytes : Bytes e) (g : good_im
   does =
       record {
         register = of 0 (λ v. Write (target e) (value e) (was) (mid s v) × Quiet s (accepted s v)) (does-register s (target e) (value e));
-        counters = of 0 (λ v. target e ≡ COUNTERS → Counters (value e) was (mid s v)) (does-counters s (target e) (value e));
         mailbox =
             of 1 (λ v. BoxWrite (target e) (word e) (value e) s (accepted s v).image × Only [] (was) (mid s v) × Answers 32 0 (accepted s v))
             (does-mailbox s (target e) (word e) (value e));
         frame = of 2 (λ v. Frame s e (was) (mid s v) (accepted s v)) (does-frame s e small_bytes);
         start = of 3 (λ v. Start s (was) (mid s v) (accepted s v).mailbox × ((accepted s v).count ≡ 0) × BoxesStayBut 32 s (accepted s v).image) (does-start s);
         sent =
-            outcome 0 (λ v. loops_back (block_of s) ≡ false → Sends s was (mid s v) (accepted s v).image × Answers (block_of s).slot 0 (accepted s v)) (does-sent s);
-        looped = outcome 0 (λ v. loops_back (block_of s) ≡ true → Looped s was (mid s v) (accepted s v)) (does-looped s);
+            outcome 0
+            (λ v. Sent was (mid s v) × BoxWrite (block_of s).slot 1 (stamped s (block_of s).slot) s (accepted s v).image × Answers (block_of s).slot 0 (accepted s v))
+            (does-sent s);
         lost = outcome 1 (λ v. Fails (was TEC) s was (mid s v) (accepted s v)) (does-lost s);
         error = outcome 2 (λ v. Fails (at_most 256 (was TEC + 8)) s was (mid s v) (accepted s v)) (does-fail s);
         unacknowledged = outcome 3 (λ v. Fails (unacknowledged_tec was) s was (mid s v) (accepted s v)) (does-unacknowledged s);
@@ -288,7 +293,6 @@ module _ (s e : List ℕ) (bytes : Bytes s) (small_bytes : Bytes e) (g : good_im
         mode = of 8 (λ v. Mode (value e) (was) (mid s v) × Quiet s (accepted s v)) (does-mode s (value e));
         options = of 9 (λ v. (mid s v OPTIONS ≡ value e) × Only (OPTIONS ∷ []) (was) (mid s v) × Quiet s (accepted s v)) (does-options s (value e));
         reset = of 10 (λ v. FreshWords (was PROFILE) (mid s v) × Quiet s (accepted s v)) (does-reset s);
-        tests = of 11 (λ v. (mid s v TESTS ≡ value e) × Only (TESTS ∷ []) (was) (mid s v) × Quiet s (accepted s v)) (does-tests s (value e));
       }
 
   -- the words of the image that is left

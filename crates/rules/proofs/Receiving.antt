@@ -32,7 +32,7 @@ use Rattle.mailboxes.proofs.Spliced.{data_byte}
 use Rattle.mailboxes.proofs.Filed.{length-filed, bytes-filed, filed-word_1, filed-ide, filed-identifier-field, filed-maskable, filed-rfh, filed-new, filed-old, data_bytes_le}
 use Rattle.events.specs.declared.Frame.{Frame as EventFrame}
 use Rattle.events.specs.Parts.{frame_of}
-use Rattle.events.proofs.Allowed.{FrameFits}
+use Rattle.events.proofs.Allowed.{FrameAllowed}
 use Rattle.filter.specs.declared.Delivery.{Delivery}
 use Rattle.filter.specs.declared.Delivery.TheVariants.{Into, Reply, Nowhere}
 use Rattle.filter.specs.declared.Found.TheVariants.{At}
@@ -144,16 +144,7 @@ not_matching s x n h = rw h
 
 -- ---- a frame in its mailbox
 
--- what is asked of the image: an image's bytes, with a time stamp counter of 16 bits
-pub record Lent (s : List ℕ) : Type 0 where
-  pub size : length s ≡ 776
-  pub bytes : Bytes s
-  pub tsc : (block_of s).tsc < 65536
-
-pub good-lent : (s : List ℕ) → GoodImage s → Lent s
-good-lent s g = record { size = g.size; bytes = g.bytes; tsc = g.block.core.ranges.tsc }
-
-module _ (s e : List ℕ) (g : Lent s) (by : Bytes e) (ok : FrameFits (frame_of e)) (n : ℕ) (there : n < 32) where
+module _ (s e : List ℕ) (g : GoodImage s) (by : Bytes e) (ok : FrameAllowed (frame_of e)) (n : ℕ) (there : n < 32) where
   abbrev fr : EventFrame
   fr = frame_of e
 
@@ -161,7 +152,7 @@ module _ (s e : List ℕ) (g : Lent s) (by : Bytes e) (ok : FrameFits (frame_of 
   tsc = (block_of s).tsc
 
   small : tsc < 65536
-  small = g.tsc
+  small = g.block.core.ranges.tsc
 
   room : 16 * n + 16 ≤ length s
   room = omega (arith, g.size)
@@ -242,7 +233,7 @@ module _ (s e : List ℕ) (g : Lent s) (by : Bytes e) (ok : FrameFits (frame_of 
 -- ---- the block
 
 module _ (b : Block) where
-  pub rec_falls : (listened b).rec ≤ b.rec
+  rec_falls : (listened b).rec ≤ b.rec
   unfolding listened
   rec_falls = at (on_bus b) (ltb 127 b.rec) refl
     where
@@ -263,7 +254,7 @@ module _ (b : Block) where
 
 -- ---- what a frame leaves, by where it goes
 
-module _ (s e : List ℕ) (g : Lent s) (by : Bytes e) (ok : FrameFits (frame_of e)) where
+module _ (s e : List ℕ) (g : GoodImage s) (by : Bytes e) (ok : FrameAllowed (frame_of e)) where
   abbrev pub b0 : Block
   b0 = block_of s
 
@@ -282,7 +273,7 @@ module _ (s e : List ℕ) (g : Lent s) (by : Bytes e) (ok : FrameFits (frame_of 
   kept : (d : Delivery) → stowed s fx d ≡ s → BoxesStayBut 32 s (out d).image
   kept d q i l o = byte-stays (stowed s fx d) (settled (left d)) i l ∙ ap (λ (y : List ℕ). get_or y i 0) q
 
-  pub calm_left : (d : Delivery) → left d ≡ delivered (listened b0) (rtr e) d
+  calm_left : (d : Delivery) → left d ≡ delivered (listened b0) (rtr e) d
   unfolding delivered listened stored
   calm_left (Into n c) = calm b0 _ refl (rec_falls b0)
   calm_left (Reply n c) = calm b0 _ refl (rec_falls b0)

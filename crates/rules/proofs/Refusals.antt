@@ -30,7 +30,7 @@ use Rattle.events.proofs.Unused.{data_unused, unused_data}
 use Rattle.good.specs.Good.{good_image}
 use Rattle.good.proofs.Image.{GoodImage, image_facts}
 use Rattle.refusals.specs.Refusal as product
-use Rattle.rules.specs.Words.{Words, words, ◌has◌, ◌is◌, byte, box, any, COUNTERS, e_can, added, is_mask}
+use Rattle.rules.specs.Words.{Words, words, ◌has◌, ◌is◌, byte, box, any, e_can, added, is_mask}
 use Rattle.rules.specs.Events.{operation, target, word, value, rtr, highest_dlc, unknown, asleep, uses_data, unused, register_bad, word_bad, bad, turned, busy, foreign, locked, pointless}
 use Rattle.rules.proofs.Any.{any_word}
 use Rattle.rules.proofs.Blocks.{of_block, of_block_lem}
@@ -113,9 +113,9 @@ and_comm true false = refl
 and_comm false true = refl
 and_comm false false = refl
 
-pad7 : (x : Bool) → x ≡ (x || false || false || false || false || false || false || false)
-pad7 true = refl
-pad7 false = refl
+pad5 : (x : Bool) → x ≡ (x || false || false || false || false || false)
+pad5 true = refl
+pad5 false = refl
 
 -- ---- refusal 4: values
 
@@ -125,7 +125,7 @@ mask-same t = rw (or-false (eqb t 9))
 
 register-bad : (w : Words) (t v : ℕ) → v < 2 ^ 32 → not (register_allowed (e_can w) t v) ≡ register_bad w t v
 unfolding register_allowed
-register-bad w t v h = at (ℕ_discrete t 8) (ℕ_discrete t 9) (product_mask t) refl (ℕ_discrete t 11) (ℕ_discrete t 15) (ℕ_discrete t 16) (ℕ_discrete t 17) (ℕ_discrete t 18) (ℕ_discrete t 19) (ℕ_discrete t 33)
+register-bad w t v h = at (ℕ_discrete t 8) (ℕ_discrete t 9) (product_mask t) refl (ℕ_discrete t 11) (ℕ_discrete t 15) (ℕ_discrete t 16) (ℕ_discrete t 17) (ℕ_discrete t 18) (ℕ_discrete t 19)
   where
     Bad : ℕ → Type 0
     Bad t = not (register_allowed (e_can w) t v) ≡ register_bad w t v
@@ -140,21 +140,20 @@ register-bad w t v h = at (ℕ_discrete t 8) (ℕ_discrete t 9) (product_mask t)
     high : 64 ≤ t → (k : ℕ) → k < 64 → eqb t k ≡ false
     high l k u = ne_eqb t k (λ q. omega arith)
 
-    at : Dec (t ≡ 8) → Dec (t ≡ 9) → (u : Bool) → product_mask t ≡ u → Dec (t ≡ 11) → Dec (t ≡ 15) → Dec (t ≡ 16) → Dec (t ≡ 17) → Dec (t ≡ 18) → Dec (t ≡ 19) → Dec (t ≡ 33) → Bad t
-    at (yes e) b u m c d f g i j x = of 8 (gap_bits v ∙ pad4 _) e
-    at (no a) (yes e) u m c d f g i j x = of 9 (gap_bits v ∙ pad4 _) e
-    at (no a) (no b) true m c d f g i j x =
+    at : Dec (t ≡ 8) → Dec (t ≡ 9) → (u : Bool) → product_mask t ≡ u → Dec (t ≡ 11) → Dec (t ≡ 15) → Dec (t ≡ 16) → Dec (t ≡ 17) → Dec (t ≡ 18) → Dec (t ≡ 19) → Bad t
+    at (yes e) b u m c d f g i j = of 8 (gap_bits v ∙ pad4 _) e
+    at (no a) (yes e) u m c d f g i j = of 9 (gap_bits v ∙ pad4 _) e
+    at (no a) (no b) true m c d f g i j =
         let l = leb-true 64 t (and_l (leb 64 t) (leb t 95) m) in
-        rw (mask-same t, high l 8 (lit< tt), high l 9 (lit< tt), high l 11 (lit< tt), high l 15 (lit< tt), high l 16 (lit< tt), high l 17 (lit< tt), high l 18 (lit< tt), high l 19 (lit< tt), high l 33 (lit< tt), m) (gap_bits v ∙ pad4 _)
-    at (no a) (no b) false m (yes e) d f g i j x = of 11 (top ∙ pad3 _) e
-    at (no a) (no b) false m (no c) (yes e) f g i j x = of 15 (not-ltb v 255 ∙ pad2 _) e
-    at (no a) (no b) false m (no c) (no d) (yes e) g i j x = of 16 (not-ltb v 255 ∙ pad2 _) e
-    at (no a) (no b) false m (no c) (no d) (no f) (yes e) i j x = of 17 (not-ltb v 1023 ∙ pad1 _) e
-    at (no a) (no b) false m (no c) (no d) (no f) (no g) (yes e) j x = of 18 (not-ltb v 1023 ∙ pad1 _) e
-    at (no a) (no b) false m (no c) (no d) (no f) (no g) (no i) (yes e) x = of 19 refl e
-    at (no a) (no b) false m (no c) (no d) (no f) (no g) (no i) (no j) (yes e) = of 33 (not-ltb v 255 ∙ pad2 _) e
-    at (no a) (no b) false m (no c) (no d) (no f) (no g) (no i) (no j) (no x) =
-        rw (mask-same t, ne_eqb t 8 a, ne_eqb t 9 b, m, ne_eqb t 11 c, ne_eqb t 15 d, ne_eqb t 16 f, ne_eqb t 17 g, ne_eqb t 18 i, ne_eqb t 19 j, ne_eqb t 33 x)
+        rw (mask-same t, high l 8 (lit< tt), high l 9 (lit< tt), high l 11 (lit< tt), high l 15 (lit< tt), high l 16 (lit< tt), high l 17 (lit< tt), high l 18 (lit< tt), high l 19 (lit< tt), m) (gap_bits v ∙ pad4 _)
+    at (no a) (no b) false m (yes e) d f g i j = of 11 (top ∙ pad3 _) e
+    at (no a) (no b) false m (no c) (yes e) f g i j = of 15 (not-ltb v 255 ∙ pad2 _) e
+    at (no a) (no b) false m (no c) (no d) (yes e) g i j = of 16 (not-ltb v 255 ∙ pad2 _) e
+    at (no a) (no b) false m (no c) (no d) (no f) (yes e) i j = of 17 (not-ltb v 1023 ∙ pad1 _) e
+    at (no a) (no b) false m (no c) (no d) (no f) (no g) (yes e) j = of 18 (not-ltb v 1023 ∙ pad1 _) e
+    at (no a) (no b) false m (no c) (no d) (no f) (no g) (no i) (yes e) = of 19 refl e
+    at (no a) (no b) false m (no c) (no d) (no f) (no g) (no i) (no j) =
+        rw (mask-same t, ne_eqb t 8 a, ne_eqb t 9 b, m, ne_eqb t 11 c, ne_eqb t 15 d, ne_eqb t 16 f, ne_eqb t 17 g, ne_eqb t 18 i, ne_eqb t 19 j)
 
 word-bad : (j v : ℕ) → not (word_layout j v) ≡ word_bad j v
 word-bad zero v = not-or (v has 31) (eqb (v % 2 ^ 18) 0) ∙ pad1 _
@@ -209,10 +208,10 @@ module _ (e : List ℕ) (b : Bytes e) where
       ≡ (not x && not (target e is 0) || not y && not (word e is 0) || not (byte e 3 is 0) || not z && not (value e is 0) || not (all_below (λ i. false || byte e (8 + i) is 0) 8))
   no_data x y z = quiet_same x y z 0 (λ i. false) (omega arith) none
 
-  fourths : (w : Words) (k : ℕ) → k < 12 → Fourth w k
+  fourths : (w : Words) (k : ℕ) → k < 11 → Fourth w k
   fourths w =
-      each (Fourth w) 12
-      (((((((((((((tt, fourth w 0 (no_data true false true) (register-bad w (target e) (value e) (word_lt e b 4) ∙ pad4 _)), fourth w 1 (no_data true true true) (word-bad (word e) (value e) ∙ pad3 _)), fourth w 2 (quiet_same true false true _ (uses_data 2 e) (data_bytes_le (rtr e) (target e)) (λ i l. refl)) (frame-bad e ∙ pad2 _)), fourth w 3 (no_data false false false) refl), fourth w 4 (no_data true false false) refl), fourth w 5 (no_data false false true) (pad1 _)), fourth w 6 (no_data false false false) refl), fourth w 7 (no_data false false false) refl), fourth w 8 (no_data false false true) (not-leb (value e) 3)), fourth w 9 (no_data false false true) (not-leb (value e) 3)), fourth w 10 (no_data false false false) refl), fourth w 11 (no_data false false true) (not-leb (value e) 3)))
+      each (Fourth w) 11
+      ((((((((((((tt, fourth w 0 (no_data true false true) (register-bad w (target e) (value e) (word_lt e b 4) ∙ pad4 _)), fourth w 1 (no_data true true true) (word-bad (word e) (value e) ∙ pad3 _)), fourth w 2 (quiet_same true false true _ (uses_data 2 e) (data_bytes_le (rtr e) (target e)) (λ i l. refl)) (frame-bad e ∙ pad2 _)), fourth w 3 (no_data false false false) refl), fourth w 4 (no_data true false false) refl), fourth w 5 (no_data false false true) (pad1 _)), fourth w 6 (no_data false false false) refl), fourth w 7 (no_data false false false) refl), fourth w 8 (no_data false false true) (not-leb (value e) 3)), fourth w 9 (no_data false false true) (not-leb (value e) 3)), fourth w 10 (no_data false false false) refl))
 
   -- of a frame, which either controller judges alike
   pub frame_refused : (w : Words) → not (quiet_as 2 e && allowed_as 2 false e) ≡ (unused 2 e || bad 2 w e)
@@ -236,30 +235,23 @@ module _ (e : List ℕ) where
   at_4 true x = refl
   at_4 false x = refl
 
-  -- a register that cannot be written: neither 0 to 19, RML and RFP left out, nor an added one, nor the error counters
-  register-unknown : (t : ℕ) → not (writable t) ≡ (ltb 19 t && not (added t || t is COUNTERS) || t is 7 || t is 10)
-  register-unknown t = at (t is COUNTERS) refl (added t) refl
+  -- a register that cannot be written: neither 0 to 19, RML and RFP left out, nor an added one
+  register-unknown : (t : ℕ) → not (writable t) ≡ (ltb 19 t && not (added t) || t is 7 || t is 10)
+  register-unknown t = at (added t) refl
     where
-      low : Bool
-      low = leb t 19 && not (t is 7) && not (t is 10)
-
       unwritable : (a b c : Bool) → not (a && not b && not c) ≡ (not a || b || c)
       unwritable true true c = refl
       unwritable true false true = refl
       unwritable true false false = refl
       unwritable false b c = refl
 
-      past : 20 ≤ t → (ltb 19 t && false || t is 7 || t is 10) ≡ false
-      past h = rw (and-false (ltb 19 t), ne_eqb t 7 (λ q. omega arith), ne_eqb t 10 (λ q. omega arith))
-
-      at : (c : Bool) → t is COUNTERS ≡ c → (u : Bool) → added t ≡ u → not (low || c || u) ≡ (ltb 19 t && not (u || c) || t is 7 || t is 10)
-      at false k false e =
-          rw (or-false low, or-false low, and-true (ltb 19 t))
+      at : (u : Bool) → added t ≡ u → not ((leb t 19 && not (t is 7) && not (t is 10)) || u) ≡ (ltb 19 t && not u || t is 7 || t is 10)
+      at false e =
+          rw (or-false (leb t 19 && not (t is 7) && not (t is 10)), and-true (ltb 19 t))
           (unwritable (leb t 19) (t is 7) (t is 10) ∙ ap (λ (x : Bool). x || t is 7 || t is 10) (not-leb t 19))
-      at true k u e = rw (or-true low, or-true u) (sym (past (let z = eqb-true t COUNTERS k in omega arith)))
-      at false k true e =
+      at true e =
           let l = leb-true 64 t (and_l (leb 64 t) (leb t 96) e) in
-          rw (or-true (low || false)) (sym (past (omega arith)))
+          rw (or-true (leb t 19 && not (t is 7) && not (t is 10)), and-false (ltb 19 t), ne_eqb t 7 (λ q. omega arith), ne_eqb t 10 (λ q. omega arith))
 
   abbrev l16 : Bool
   l16 = not (length e is 16)
@@ -267,7 +259,7 @@ module _ (e : List ℕ) where
   second_0 : Second 0
   second_0 =
       ap (λ (x : Bool). l16 || x) (register-unknown (target e))
-      ∙ at_0 l16 (ltb 19 (target e) && not (added (target e) || target e is COUNTERS) || target e is 7 || target e is 10)
+      ∙ at_0 l16 (ltb 19 (target e) && not (added (target e)) || target e is 7 || target e is 10)
 
   second_1 : Second 1
   second_1 =
@@ -277,14 +269,14 @@ module _ (e : List ℕ) where
   second_4 : Second 4
   second_4 = ap (λ (x : Bool). l16 || x) (not-leb (target e) last_outcome) ∙ at_4 l16 (ltb last_outcome (target e))
 
-  seconds : (k : ℕ) → k < 12 → Second k
+  seconds : (k : ℕ) → k < 11 → Second k
   seconds =
-      each Second 12
-      (((((((((((((tt, second_0), second_1), at_4 l16 false), at_4 l16 false), second_4), at_4 l16 false), at_4 l16 false), at_4 l16 false), at_4 l16 false), at_4 l16 false), at_4 l16 false), at_4 l16 false))
+      each Second 11
+      ((((((((((((tt, second_0), second_1), at_4 l16 false), at_4 l16 false), second_4), at_4 l16 false), at_4 l16 false), at_4 l16 false), at_4 l16 false), at_4 l16 false), at_4 l16 false))
 
-  second_past : (k : ℕ) → 12 ≤ k → (unknown k e ≡ true) × ((l16 || not (known_as k e)) ≡ true)
+  second_past : (k : ℕ) → 11 ≤ k → (unknown k e ≡ true) × ((l16 || not (known_as k e)) ≡ true)
   second_past k h =
-      (rw (lt-ltb 11 k h, or-true l16), rw (get_or-eq_default _ false h, or-true l16))
+      (rw (lt-ltb 10 k h, or-true l16), rw (get_or-eq_default _ false h, or-true l16))
 
 -- ---- refusals 3, 5, 6 and 7
 
@@ -298,8 +290,8 @@ module _ (s e : List ℕ) (g : GoodImage s) (y : Bytes e) where
   abbrev Third : ℕ → Type 0
   Third k = (wakeful_as k && Status.asleep b) ≡ asleep k w
 
-  thirds : (k : ℕ) → k < 12 → Third k
-  thirds = each Third 12 (((((((((((((tt, refl), refl), refl), refl), refl), refl), refl), refl), refl), refl), refl), refl))
+  thirds : (k : ℕ) → k < 11 → Third k
+  thirds = each Third 11 ((((((((((((tt, refl), refl), refl), refl), refl), refl), refl), refl), refl), refl), refl))
 
   abbrev v : ℕ
   v = value e
@@ -346,24 +338,22 @@ module _ (s e : List ℕ) (g : GoodImage s) (y : Bytes e) where
       at (no d) (yes e) = rw (e, z)
       at (no d) (no e) = rw (ne_eqb t 0 d, ne_eqb t 1 e)
 
-  fifths : (k : ℕ) → k < 12 → Fifth k
+  fifths : (k : ℕ) → k < 11 → Fifth k
   unfolding product.busy
   fifths =
-      each Fifth 12
-      (((((((((((((tt, two_ways (target e) _ _ _ _ off-any (turn-any b.trs trs-fits)), pad2 _), pad3 _), pad3 _), refl), pad3 _), refl), refl), refl), refl), refl), refl))
+      each Fifth 11
+      ((((((((((((tt, two_ways (target e) _ _ _ _ off-any (turn-any b.trs trs-fits)), pad2 _), pad3 _), pad3 _), refl), pad3 _), refl), refl), refl), refl), refl))
 
   abbrev Sixth : ℕ → Type 0
   Sixth k = product.locked s (event_as k e) ≡ locked k w (box s (target e) 0) e
 
-  lock_ways : (t : ℕ) (p q m c f : Bool) → p ≡ q → (t ≡ 1 → f ≡ false)
-      → cond (eqb t 1) p (((eqb t 17 || eqb t 18) && m) || (eqb t 33 && c) || f)
-      ≡ (eqb t 1 && q || (eqb t 17 || (eqb t 18 || false)) && m || eqb t 33 && c || f || false || false || false || false)
-  lock_ways t p q m c f x z = at (ℕ_discrete t 1)
+  lock_ways : (t : ℕ) (p q m f : Bool) → p ≡ q → (t ≡ 1 → f ≡ false)
+      → cond (eqb t 1) p (((eqb t 17 || eqb t 18) && m) || f) ≡ (eqb t 1 && q || (eqb t 17 || (eqb t 18 || false)) && m || f || false || false || false)
+  lock_ways t p q m f x z = at (ℕ_discrete t 1)
     where
-      at : Dec (t ≡ 1) → cond (eqb t 1) p (((eqb t 17 || eqb t 18) && m) || (eqb t 33 && c) || f)
-          ≡ (eqb t 1 && q || (eqb t 17 || (eqb t 18 || false)) && m || eqb t 33 && c || f || false || false || false || false)
-      at (yes e) = rw (e, x, z e) (pad7 q)
-      at (no d) = rw (ne_eqb t 1 d, or-false (eqb t 18)) (pad4 _)
+      at : Dec (t ≡ 1) → cond (eqb t 1) p (((eqb t 17 || eqb t 18) && m) || f) ≡ (eqb t 1 && q || (eqb t 17 || (eqb t 18 || false)) && m || f || false || false || false)
+      at (yes e) = rw (e, x, z e) (pad5 q)
+      at (no d) = rw (ne_eqb t 1 d, or-false (eqb t 18)) (pad3 _)
 
   -- MD is no foreign register
   own-md : (t : ℕ) → t ≡ 1 → foreign w t ≡ false
@@ -379,8 +369,8 @@ module _ (s e : List ℕ) (g : GoodImage s) (y : Bytes e) where
   sixth_0 : Sixth 0
   unfolding product.locked
   sixth_0 =
-      ap (λ (f : Bool). cond (target e is 1) (product.meet b.mc (product.turned_round b v)) (((target e is 17 || target e is 18) && not (b.mode is 1)) || (target e is 33 && product.counters_locked b) || f)) (foreign-same (target e))
-      ∙ lock_ways (target e) _ _ _ _ _ (turn-any b.mc g.block.core.wide.mc) (own-md (target e))
+      ap (λ (f : Bool). cond (target e is 1) (product.meet b.mc (product.turned_round b v)) (((target e is 17 || target e is 18) && not (b.mode is 1)) || f)) (foreign-same (target e))
+      ∙ lock_ways (target e) _ _ _ _ (turn-any b.mc g.block.core.wide.mc) (own-md (target e))
 
   mode_ways : (a z m c t : Bool) → (c ≡ true → z ≡ false) → not (a || (z || (m && (not c || t)))) ≡ (not a && not z && not m || not a && c && not t)
   mode_ways true z m c t h = refl
@@ -405,18 +395,17 @@ module _ (s e : List ℕ) (g : GoodImage s) (y : Bytes e) where
       (λ q. ne_eqb b.mode 0 (λ r. let o = eqb-true b.mode 1 q in omega arith))
       ∙ ap (λ (x : Bool). not (value e is b.mode) && not (b.mode is 0) && not (value e is 0) || not (value e is b.mode) && b.mode is 1 && x)
       (untimed_is (b.bcr2 % 16) (b.bcr2 / 16 % 8) _ _ (not-leb (b.bcr2 / 256 % 4) (b.bcr2 / 16 % 8)))
-      ∙ pad1 _
 
-  sixths : (k : ℕ) → k < 12 → Sixth k
+  sixths : (k : ℕ) → k < 11 → Sixth k
   unfolding product.locked
-  sixths = each Sixth 12 (((((((((((((tt, sixth_0), pad3 _), refl), refl), refl), refl), refl), refl), sixth_8), refl), refl), refl))
+  sixths = each Sixth 11 ((((((((((((tt, sixth_0), pad2 _), refl), refl), refl), refl), refl), refl), sixth_8), refl), refl))
 
   abbrev Seventh : ℕ → Type 0
   Seventh k = product.pointless b (event_as k e) ≡ pointless k w
 
-  sevenths : (k : ℕ) → k < 12 → Seventh k
+  sevenths : (k : ℕ) → k < 11 → Seventh k
   unfolding product.pointless
-  sevenths = each Seventh 12 (((((((((((((tt, refl), refl), refl), refl), refl), refl), refl), refl), refl), refl), refl), refl))
+  sevenths = each Seventh 11 ((((((((((((tt, refl), refl), refl), refl), refl), refl), refl), refl), refl), refl), refl))
 
 -- ---- all together
 
@@ -443,7 +432,7 @@ module _ (s e : List ℕ) (bytes : Bytes s) (y : Bytes e) (h : good_image s ≡ 
       ∷ product.pointless (block_of s) (event_as k e)
       ∷ [])
 
-  chains : (k : ℕ) → Dec (k < 12) → chain k ≡ first_from 2 (tests_as k (of_block (words s) (block_of s)) (box s (target e) 0) e)
+  chains : (k : ℕ) → Dec (k < 11) → chain k ≡ first_from 2 (tests_as k (of_block (words s) (block_of s)) (box s (target e) 0) e)
   chains k (yes l) =
       rw (seconds e k l, thirds s e gi y k l, fourths e y (of_block (words s) (block_of s)) k l, fifths s e gi y k l, sixths s e gi y k l, sevenths s e gi y k l)
   chains k (no l) = let p = second_past e k (omega arith) in rw (p.0, p.1)
@@ -452,5 +441,5 @@ module _ (s e : List ℕ) (bytes : Bytes s) (y : Bytes e) (h : good_image s ≡ 
   unfolding product.refusal
   same-refusal =
       ap (λ (w : Words). first_from 2 (tests_as (operation e) w (box s (target e) 0) e)) (of_block_lem s)
-      ∙ sym (chains (operation e) (dec_lt (operation e) 12))
+      ∙ sym (chains (operation e) (dec_lt (operation e) 11))
       ∙ rw h

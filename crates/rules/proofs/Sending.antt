@@ -17,13 +17,13 @@ use Rattle.registers.specs.declared.Block.{Block}
 use Rattle.registers.specs.Block.{with_gif, with_tsc, with_tec, with_rec, with_recovery, of_words}
 use Rattle.fresh.specs.Fresh.{fresh_block}
 use Rattle.registers.specs.Status.{bus_off, passive, asleep}
-use Rattle.registers.specs.Modes.{ticked, overflows, recessive, worsened, asked, optioned, tested, risen, ready, entered, settled}
-use Rattle.registers.specs.Writes.{slot_mask, counting as counters_set}
+use Rattle.registers.specs.Modes.{ticked, overflows, recessive, worsened, asked, optioned, risen, ready, entered, settled}
+use Rattle.registers.specs.Writes.{slot_mask}
 use Rattle.registers.specs.Sending.{sent, failed, aborting, added, concluded}
 use Rattle.registers.proofs.Flags.{slot-bit, sent-trs, sent-ta, sent-trr, sent-mbtif, aborting-bit, failed-trs, failed-aa, failed-trr, failed-gif, entered-gif, risen-gif, ticked-gif}
 use Rattle.model.proofs.Meets.{calm}
-use Rattle.rules.specs.Words.{Words, ◌is◌, at_most, Only, MD, TRS, TRR, TA, AA, MBTIF, GIF, TSC, TEC, REC, MODE, WAITING, SLOT, RECOVERY, OPTIONS, TSO, TESTS, PROTECTION, PROFILE, empty_slot}
-use Rattle.rules.specs.Sending.{Gif, nothing, Tick, Recessive, Sent, Unsent, unacknowledged_tec, Counters, ReceiveError, Mode, Ending}
+use Rattle.rules.specs.Words.{Words, ◌is◌, at_most, Only, MD, TRS, TRR, TA, AA, MBTIF, GIF, TSC, TEC, REC, MODE, WAITING, SLOT, RECOVERY, OPTIONS, TSO, PROTECTION, PROFILE, empty_slot}
+use Rattle.rules.specs.Sending.{Gif, nothing, Tick, Recessive, Sent, Unsent, unacknowledged_tec, ReceiveError, Mode, Ending}
 use Rattle.rules.specs.Fresh.{FreshWords}
 use Rattle.rules.proofs.Blocks.{of_block, word_cases, of_low, of_other, only, still}
 
@@ -111,16 +111,6 @@ module _ (m : Words) (b : Block) where
         rest = only (REC ∷ GIF ∷ []) m b _ refl;
       }
 
-  pub counters-taken : (v : ℕ) → Counters v (of_block m b) (of_block m (risen b (counters_set b v)))
-  unfolding risen
-  counters-taken v =
-      record {
-        tec = refl;
-        rec = refl;
-        gif = gif-rises m b (counters_set b v) nothing (λ n. sym (or-false (bit b.gif n)));
-        rest = only (TEC ∷ REC ∷ GIF ∷ []) m b _ refl;
-      }
-
   pub mode-asked : (v : ℕ) → Mode v (of_block m b) (of_block m (risen b (asked b v)))
   unfolding asked
   mode-asked v =
@@ -137,15 +127,8 @@ module _ (m : Words) (b : Block) where
         λ k z. ap (λ (x : Block). of_block m x k) e ∙ only (OPTIONS ∷ []) m b (optioned b v) refl k z,
       )
 
-  pub tests-taken : (v : ℕ) → ((risen b (tested b v)).tests ≡ v) × Only (TESTS ∷ []) (of_block m b) (of_block m (risen b (tested b v)))
-  tests-taken v =
-      let e = calm b (tested b v) refl (omega arith) in (
-        ap (λ (x : Block). x.tests) e,
-        λ k z. ap (λ (x : Block). of_block m x k) e ∙ only (TESTS ∷ []) m b (tested b v) refl k z,
-      )
-
 -- the words of a fresh block where every other word is 0
-pub fresh-rule : (m : Words) → ((k : ℕ) → 29 ≤ k → k ≢ PROTECTION → k ≢ PROFILE → m k ≡ 0) → (p : ℕ) (b : Block)
+pub fresh-rule : (m : Words) → ((k : ℕ) → 28 ≤ k → k ≢ PROTECTION → k ≢ PROFILE → m k ≡ 0) → (p : ℕ) (b : Block)
     → FreshWords p (of_block m (risen b (fresh_block p)))
 unfolding risen fresh_block
 fresh-rule m none p b =
@@ -158,7 +141,7 @@ fresh-rule m none p b =
       rest =
           λ k z.
           only (MD ∷ MODE ∷ WAITING ∷ SLOT ∷ PROFILE ∷ []) m (of_words []) (risen b (fresh_block p)) refl k z
-          ∙ word_cases (λ k. of_block m (of_words []) k ≡ 0) (λ k h. of_low m (of_words []) k h ∙ zeros 31 k) refl refl
+          ∙ word_cases (λ k. of_block m (of_words []) k ≡ 0) (λ k h. of_low m (of_words []) k h ∙ zeros 30 k) refl refl
           (λ k h p q. of_other m (of_words []) k h p q ∙ none k h p q) k;
     }
 

@@ -11,7 +11,7 @@ use Rattle.good.proofs.Image.{image-good}
 use Rattle.events.specs.Decode.{event}
 use Rattle.refusals.specs.Refusal.{refusal}
 use Rattle.model.specs.Step.{accepted, step}
-use Rattle.model.proofs.Kept.{Taken as TakenEvent, taken, step-good}
+use Rattle.model.proofs.Kept.{step-good}
 use Rattle.rules.specs.Image.{Good}
 use Rattle.rules.specs.Step.{Accepted, Rules}
 use Rattle.rules.proofs.Good.{good-rule, rule-good}
@@ -56,12 +56,12 @@ module _ (s e : List ℕ) (bytes : Bytes s) (small : Bytes e) where
           one s e bytes small (accepted-good s e bytes small z) z o u (p.accepts f) (q.accepts f)
 
   -- what holds of the image as it came, and of what an accepted event leaves, holds of what is left by an outcome that keeps the rules
-  pub stays-or_moves : (o : Outcome) → Rules s e o → (P : List ℕ → Type 0) → P s → (TakenEvent s (event e) → Accepted s e o → P o.image) → P o.image
+  pub stays-or_moves : (o : Outcome) → Rules s e o → (P : List ℕ → Type 0) → P s → (Accepted s e o → P o.image) → P o.image
   stays-or_moves o p P stays moves = at (ℕ_discrete (refusal s e) 0)
     where
       at : Dec (refusal s e ≡ 0) → P o.image
       at (no d) = subst P (sym (p.refuses (refusal s e) (first-refusal s e bytes small d)).0) stays
-      at (yes z) = moves (taken s e bytes small (accepted-good s e bytes small z) z) (p.accepts (none-applies s e bytes small z))
+      at (yes z) = moves (p.accepts (none-applies s e bytes small z))
 
   -- a good image stays good
   pub good-step : Good s → Good (step s e).image

@@ -13,10 +13,10 @@ use Rattle.bits.proofs.Laws.{same_bits}
 use Rattle.bits.proofs.Below.{each_below}
 use Rattle.bits.proofs.Sets.{and_l, and_r}
 use Rattle.events.specs.Decode.{writable}
-use Rattle.rules.specs.Words.{Words, ◌has◌, ◌is◌, among, Only, MC, LAM, GAM, CDR, MBIM, GIM, BCR1, BCR2, MBRIF, RMP, RML, RFP, MD, TRS, TRR, TA, AA, MBTIF, GIF, TSC, TEC, REC, MODE, WAITING, SLOT, RECOVERY, TSO, COUNTERS, PROFILE, added, place}
+use Rattle.rules.specs.Words.{Words, ◌has◌, ◌is◌, among, Only, MC, LAM, GAM, CDR, MBIM, GIM, BCR1, BCR2, MBRIF, RMP, RML, RFP, MD, TRS, TRR, TA, AA, MBTIF, GIF, TSC, TEC, REC, MODE, WAITING, SLOT, RECOVERY, TSO, PROFILE, added, place}
 use Rattle.rules.specs.Image.{bus_off}
 use Rattle.rules.specs.Writing.{Write}
-use Rattle.rules.specs.Sending.{Gif, nothing, Tick, Recessive, Sent, Unsent, Counters, ReceiveError, Mode, Ending, taken}
+use Rattle.rules.specs.Sending.{Gif, nothing, Tick, Recessive, Sent, Unsent, ReceiveError, Mode, Ending, taken}
 use Rattle.rules.specs.Fresh.{FreshWords}
 use Rattle.rules.proofs.Blocks.{All, among-all, every-word}
 
@@ -92,12 +92,6 @@ module _ (was a b : Words) where
       by_only (REC ∷ GIF ∷ []) p.rest q.rest
       (r, (gif-same nothing (p.rest TEC refl ∙ sym (q.rest TEC refl)) r p.gif q.gif, tt))
 
-  pub counters-one : (v : ℕ) → Counters v was a → Counters v was b → Agree a b
-  counters-one v p q =
-      let t = p.tec ∙ sym q.tec in
-      let r = p.rec ∙ sym q.rec in
-      by_only (TEC ∷ REC ∷ GIF ∷ []) p.rest q.rest (t, (r, (gif-same nothing t r p.gif q.gif, tt)))
-
   pub mode-one : (v : ℕ) → Mode v was a → Mode v was b → Agree a b
   mode-one v p q = by_only (WAITING ∷ []) p.rest q.rest (p.waiting ∙ sym q.waiting, tt)
 
@@ -148,8 +142,8 @@ module _ (was a b : Words) where
       (takes_one v MC refl, (takes_one v LAM refl, (takes_one v GAM refl, (takes_one v CDR refl, (takes_one v MBIM refl, (takes_one v GIM refl, (takes_one v BCR1 refl, (takes_one v BCR2 refl, (takes_one v TSC refl, (clears-one v TA refl, (clears-one v AA refl, (clears-one v MBTIF refl, (clears-one v MBRIF refl, (md-one v, (trs-one v, (clears-one v GIF refl, (rmp-one v, (trr-one v, tt)))))))))))))))))) t
       (rw (ne_eqb t 7 n7, ne_eqb t 10 n10) at (each_below (λ t. t is 7 || t is 10 || among t lows) 20 listed t (omega arith)))
 
-  pub write-one : (v t : ℕ) → writable t ≡ true → t ≢ COUNTERS → Same v t
-  write-one v t h n = at (added t) refl
+  pub write-one : (v t : ℕ) → writable t ≡ true → Same v t
+  write-one v t h = at (added t) refl
     where
       r : Bool
       r = among t (MC ∷ LAM ∷ GAM ∷ CDR ∷ MBIM ∷ GIM ∷ BCR1 ∷ BCR2 ∷ TSC ∷ [])
@@ -157,8 +151,7 @@ module _ (was a b : Words) where
       at : (u : Bool) → added t ≡ u → Same v t
       at true e = takes_one v t (rw e (or-true r))
       at false e =
-          let low = leb t 19 && not (t is 7) && not (t is 10) in
-          let l = rw (ne_eqb t COUNTERS n, e, or-false low, or-false low) at h in
+          let l = rw (e, or-false (leb t 19 && not (t is 7) && not (t is 10))) at h in
           let x = and_l (leb t 19 && not (t is 7)) (not (t is 10)) l in
           low-one v t (leb-true t 19 (and_l (leb t 19) (not (t is 7)) x))
           (eqb-false t 7 (not-true _ (and_r (leb t 19) (not (t is 7)) x)))

@@ -23,7 +23,7 @@ use Rattle.events.specs.Decode.{is_mask}
 use Rattle.keeps.proofs.Writes.{written_leaves}
 use Rattle.model.specs.Step.{masked}
 use Rattle.model.proofs.Meets.{calm}
-use Rattle.rules.specs.Words.{Words, words, ◌has◌, ◌is◌, among, any, Only, MC, MD, TRS, TRR, TA, AA, RMP, RML, LAM, GAM, RFP, CDR, MBTIF, MBRIF, MBIM, GIF, GIM, BCR1, BCR2, TSC, SLOT, TSO, PROTECTION, COUNTERS, only_receives, empty_slot, added, place}
+use Rattle.rules.specs.Words.{Words, words, ◌has◌, ◌is◌, among, any, Only, MC, MD, TRS, TRR, TA, AA, RMP, RML, LAM, GAM, RFP, CDR, MBTIF, MBRIF, MBIM, GIF, GIM, BCR1, BCR2, TSC, SLOT, TSO, PROTECTION, only_receives, empty_slot, added, place}
 use Rattle.rules.specs.Writing.{ends, Write}
 use Rattle.rules.proofs.Any.{any_word}
 use Rattle.rules.proofs.Blocks.{of_block, word_cases, of_low, of_other, only, All, among-all}
@@ -119,36 +119,19 @@ module _ (m : Words) (b : Block) (v : ℕ) (fits : b.trs < 2 ^ 32) where
         trr_rest = by TRR (λ now. Only (TRS ∷ TRR ∷ AA ∷ GIF ∷ []) was now) (only (TRS ∷ TRR ∷ AA ∷ GIF ∷ []) m b _ refl) t;
       }
 
-  -- no flag of the counters rises, unless they are written
-  written-tec : (t : ℕ) → t ≢ COUNTERS → (written b t v).tec ≡ b.tec
+  -- no flag of the counters rises
+  written-tec : (t : ℕ) → (written b t v).tec ≡ b.tec
   unfolding requested cancelled released noted
-  written-tec t n = written_leaves (λ x. x.tec) b v refl refl t (λ e. absurd (n e))
+  written-tec = written_leaves (λ x. x.tec) b v refl refl
 
-  written-rec : (t : ℕ) → t ≢ COUNTERS → (written b t v).rec ≡ b.rec
+  written-rec : (t : ℕ) → (written b t v).rec ≡ b.rec
   unfolding requested cancelled released noted
-  written-rec t n = written_leaves (λ x. x.rec) b v refl refl t (λ e. absurd (n e))
+  written-rec = written_leaves (λ x. x.rec) b v refl refl
 
-  pub write_step : (t : ℕ) → is_mask t ≡ false → t ≢ COUNTERS → Write t v (of_block m b) (of_block m (risen b (written b t v)))
-  write_step t n c =
+  pub write_step : (t : ℕ) → is_mask t ≡ false → Write t v (of_block m b) (of_block m (risen b (written b t v)))
+  write_step t n =
       subst (λ (x : Block). Write t v (of_block m b) (of_block m x))
-      (sym (calm b (written b t v) (written-tec t c) (omega (arith, written-rec t c)))) (write t n)
-
--- ---- the error counters: no rule of another register speaks of them
-
-pub counters-write : (v : ℕ) (was now : Words) → Write COUNTERS v was now
-counters-write v was now =
-    record {
-      takes = λ h. absurd (false≢true h);
-      md = λ e. absurd (omega arith);
-      trs = λ e. absurd (omega arith);
-      clears = λ h. absurd (false≢true h);
-      rmp = λ e. absurd (omega arith);
-      trr = λ e. absurd (omega arith);
-      trr_trs = λ e. absurd (omega arith);
-      trr_aa = λ e. absurd (omega arith);
-      trr_gif = λ e. absurd (omega arith);
-      trr_rest = λ e. absurd (omega arith);
-    }
+      (sym (calm b (written b t v) (written-tec t) (omega (arith, written-rec t)))) (write t n)
 
 -- ---- a mask: a word beside the block, which stays
 

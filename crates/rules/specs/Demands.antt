@@ -1,10 +1,10 @@
 -- Demands 1 and 2, in the officer's order, over what a C caller sees: s and e are the bytes of an image and of an event, x the bytes that
 -- a call left in what it was lent, a the number that it answered. Demand 3 is in the crate `books`.
-use Rattle.std.specs.Prelude.{ℕ, ◌+◌, ◌*◌, ◌%◌, ◌≤◌, ◌≡◌, true, false, List, length, take}
+use Rattle.std.specs.Prelude.{ℕ, ◌+◌, ◌*◌, ◌%◌, ◌≤◌, ◌≡◌, List, length, take}
 use Rattle.words.specs.Bytes.{Bytes}
-use Rattle.rules.specs.Words.{words, BoxesStayBut, BoxesStayButTwo, SLOT}
+use Rattle.rules.specs.Words.{BoxesStayBut}
 use Rattle.rules.specs.Image.{Good}
-use Rattle.rules.specs.Events.{operation, echo, looping, Applies, FirstRefusal}
+use Rattle.rules.specs.Events.{operation, Applies, FirstRefusal}
 use Rattle.rules.specs.Receiving.{First}
 use Rattle.rules.specs.Listing.{Trace, ascii}
 use Rattle.rules.specs.Calls.{FreshCall, StepCall, ListingCall}
@@ -20,17 +20,10 @@ pub record Demand1 : Type 0 where
       → take a x ≡ ascii "trace refused 8\n"
 
 -- Demand 2. What a step leaves and answers is exactly what the rules lay down: no second result keeps them. A fresh image is good, and a
--- good image stays good. Of the mailboxes a frame can change one only, the one that the search stops at. By document 02, h), a sending in
--- loop-back can change two, the sender and the one that the search for its frame stops at, which is the same before the sending and after it;
--- every other event can change one at most.
+-- good image stays good. Of the mailboxes a frame can change one only, the one that the search stops at.
 pub record Demand2 : Type 0 where
   pub exactly : (s e : List ℕ) → Bytes s → Bytes e → (x y : List ℕ) (a b : ℕ) → StepCall s e x a → StepCall s e y b → (x ≡ y) × (a ≡ b)
   pub fresh : (s x : List ℕ) (p a : ℕ) → FreshCall s p x a → length s ≡ 776 → p ≤ 1 → Good x
   pub good : (s e x : List ℕ) (a : ℕ) → Bytes s → Bytes e → StepCall s e x a → Good s → Good x
   pub picked : (s e x : List ℕ) (a : ℕ) → Bytes s → Bytes e → StepCall s e x a → operation e ≡ 2 → (k n : ℕ) → First s e k n → BoxesStayBut n s x
   pub nobody : (s e x : List ℕ) (a : ℕ) → Bytes s → Bytes e → StepCall s e x a → operation e ≡ 2 → ((k n : ℕ) → First s e k n → ⊥) → BoxesStayBut 32 s x
-  pub two : (s e x : List ℕ) (a : ℕ) → Bytes s → Bytes e → StepCall s e x a → looping s e ≡ true
-      → (k n : ℕ) → First s (echo s (words s SLOT)) k n → BoxesStayButTwo (words s SLOT) n s x
-  pub sender : (s e x : List ℕ) (a : ℕ) → Bytes s → Bytes e → StepCall s e x a → looping s e ≡ true
-      → ((k n : ℕ) → First s (echo s (words s SLOT)) k n → ⊥) → BoxesStayBut (words s SLOT) s x
-  pub one : (s e x : List ℕ) (a : ℕ) → Bytes s → Bytes e → StepCall s e x a → looping s e ≡ false → (n : ℕ) × BoxesStayBut n s x

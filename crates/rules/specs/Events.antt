@@ -1,11 +1,11 @@
 -- "The events": the fields of an event, and the refusals: 2 to 7 each as a test of the event and the register words.
-use Rattle.std.specs.Prelude.{ℕ, ◌+◌, ◌*◌, ◌/◌, ◌%◌, ◌^◌, ◌<◌, ◌≡◌, Bool, true, cond, not, ◌&&◌, ◌||◌, List, [], ◌∷◌, ltb, leb, length}
+use Rattle.std.specs.Prelude.{ℕ, ◌+◌, ◌/◌, ◌%◌, ◌^◌, ◌<◌, ◌≡◌, Bool, true, cond, not, ◌&&◌, ◌||◌, List, [], ◌∷◌, ltb, leb, length}
 use Rattle.std.specs.Bool.{xor}
 use Rattle.bits.specs.Below.{all_below}
 use Rattle.answers.specs.Answer.{Outcome}
 use Rattle.words.specs.Word.{word_at}
-use Rattle.rules.specs.Words.{Words, ◌has◌, ◌is◌, words, box, byte, at_most, among, any, MC, MD, TRS, RML, LAM, GAM, RFP, CDR, GIF, GIM, BCR1, BCR2, TSC, MODE, SLOT, COUNTERS, e_can, loops_back, tests_errors, empty_slot, only_receives, added, is_mask}
-use Rattle.rules.specs.Image.{Good, bus_off}
+use Rattle.rules.specs.Words.{Words, ◌has◌, ◌is◌, words, box, byte, at_most, among, any, MC, MD, TRS, RML, LAM, GAM, RFP, CDR, GIF, GIM, BCR1, BCR2, TSC, MODE, SLOT, e_can, empty_slot, only_receives, added, is_mask}
+use Rattle.rules.specs.Image.{Good}
 
 -- The events: operation, target and word have a byte each, the value four. A frame's value has IDE in bit 31, RTR in bit 30 and the
 -- identifier in 28 to 0.
@@ -36,39 +36,13 @@ most_data_bytes = 8
 abbrev pub carried : List ℕ → ℕ
 carried e = cond (rtr e) 0 (at_most most_data_bytes (target e))
 
--- Document 02, h), loop-back: the frame that mailbox n holds, as the event in which it would be heard. Its value has IDE and the identifier
--- of word 0 and RTR of word 1 (bit 4); of its data bytes, only those that it carries are ever asked for.
-abbrev pub echo : List ℕ → ℕ → List ℕ
-echo s n =
-    2
-    ∷ (box s n 1 % 16)
-    ∷ 0
-    ∷ 0
-    ∷ byte s (16 * n)
-    ∷ byte s (16 * n + 1)
-    ∷ byte s (16 * n + 2)
-    ∷ (cond (box s n 0 has 31) 128 0 + cond (box s n 1 has 4) 64 0 + byte s (16 * n + 3) % 32)
-    ∷ byte s (16 * n + 8)
-    ∷ byte s (16 * n + 9)
-    ∷ byte s (16 * n + 10)
-    ∷ byte s (16 * n + 11)
-    ∷ byte s (16 * n + 12)
-    ∷ byte s (16 * n + 13)
-    ∷ byte s (16 * n + 14)
-    ∷ byte s (16 * n + 15)
-    ∷ []
-
--- Document 02, h): is the event a sending in loop-back? The outcome sent, with loop-back on.
-abbrev pub looping : List ℕ → List ℕ → Bool
-looping s e = operation e is 4 && target e is 0 && loops_back (words s)
-
--- Refusal 2: another length than 16, or a number that nothing has: an operation above 11, a register above 19 that is neither one of the added
--- ones (document 02, g) nor 33 (h), a mailbox above 31, a word above 3, an outcome above 3 (document 02, b). RML and RFP cannot be written.
+-- Refusal 2: another length than 16, or a number that nothing has: an operation above 10, a register above 19 that is none of the added ones
+-- (document 02, g), a mailbox above 31, a word above 3, an outcome above 3 (document 02, b). RML and RFP cannot be written.
 abbrev pub unknown : ℕ → List ℕ → Bool
 unknown op e =
     not (length e is 16)
-    || ltb 11 op
-    || op is 0 && (ltb 19 (target e) && not (added (target e) || target e is COUNTERS) || target e is RML || target e is RFP)
+    || ltb 10 op
+    || op is 0 && (ltb 19 (target e) && not (added (target e)) || target e is RML || target e is RFP)
     || op is 1 && (ltb 31 (target e) || ltb 3 (word e))
     || op is 4 && ltb 3 (target e)
 
@@ -86,7 +60,7 @@ unused op e =
     not (among op (0 ∷ 1 ∷ 2 ∷ 4 ∷ [])) && not (target e is 0)
     || not (op is 1) && not (word e is 0)
     || not (byte e 3 is 0)
-    || not (among op (0 ∷ 1 ∷ 2 ∷ 5 ∷ 8 ∷ 9 ∷ 11 ∷ [])) && not (value e is 0)
+    || not (among op (0 ∷ 1 ∷ 2 ∷ 5 ∷ 8 ∷ 9 ∷ [])) && not (value e is 0)
     || not (all_below (λ i. uses_data op e i || byte e (8 + i) is 0) 8)
 
 -- Refusal 4, what a register does not take; by document 02, g), every mask is bound, and bit 31 of CDR in a CAN-B alone.
@@ -94,7 +68,7 @@ abbrev pub register_bad : Words → ℕ → ℕ → Bool
 register_bad w t v =
     is_mask t && (v has 30 || v has 29)
     || t is CDR && (v has 31 && not (e_can w))
-    || among t (GIF ∷ GIM ∷ COUNTERS ∷ []) && ltb 255 v
+    || among t (GIF ∷ GIM ∷ []) && ltb 255 v
     || among t (BCR1 ∷ BCR2 ∷ []) && ltb 1023 v
     || t is TSC && not (v is 0)
 
@@ -103,14 +77,14 @@ abbrev pub word_bad : ℕ → ℕ → Bool
 word_bad j v = j is 0 && (not (v has 31) && not (v % 2 ^ 18 is 0)) || j is 1 && not (v / 2 ^ 5 % 2 ^ 11 is 0)
 
 -- Refusal 4, values: those two; a frame with a DLC above the highest, with bit 29, or standard with low bits; a receive error that is neither
--- 1 nor 8; a mode, options or test modes (document 02, h) above 3.
+-- 1 nor 8; a mode or options above 3.
 abbrev pub bad : ℕ → Words → List ℕ → Bool
 bad op w e =
     op is 0 && register_bad w (target e) (value e)
     || op is 1 && word_bad (word e) (value e)
     || op is 2 && (ltb highest_dlc (target e) || value e has 29 || not (value e has 31) && not (value e % 2 ^ 18 is 0))
     || op is 5 && not (value e is 1 || value e is 8)
-    || among op (8 ∷ 9 ∷ 11 ∷ []) && ltb 3 (value e)
+    || among op (8 ∷ 9 ∷ []) && ltb 3 (value e)
 
 -- Does writing v to MD turn mailbox n round? One that only receives never turns.
 abbrev pub turned : Words → ℕ → ℕ → Bool
@@ -135,18 +109,15 @@ foreign w t = cond (e_can w) (among t (LAM ∷ GAM ∷ [])) (leb 64 t)
 
 -- Refusal 6: an MD write that turns an enabled mailbox round; BCR1 and BCR2 outside configuration; a foreign register; of an enabled mailbox
 -- word 0, and words 2 and 3 if it receives, or if it replies by itself (RFH, bit 29 of word 0) and CDR does not hold it back; a change of mode
--- that neither leaves normal nor goes there; leaving configuration with such a timing. By document 02, h), the error counters outside test
--- error mode and in bus off; a switch of the test modes outside suspend.
+-- that neither leaves normal nor goes there; leaving configuration with such a timing.
 abbrev pub locked : ℕ → Words → ℕ → List ℕ → Bool
 locked op w box0 e =
     op is 0 && target e is MD && any (λ n. w MC has n && turned w (value e) n)
     || op is 0 && among (target e) (BCR1 ∷ BCR2 ∷ []) && not (w MODE is 1)
-    || op is 0 && target e is COUNTERS && (not (tests_errors w) || bus_off w)
     || op is 0 && foreign w (target e)
     || op is 1 && w MC has target e && (word e is 0 || leb 2 (word e) && (w MD has target e || box0 has 29 && not (w CDR has target e)))
     || op is 8 && not (value e is w MODE) && not (w MODE is 0) && not (value e is 0)
     || op is 8 && not (value e is w MODE) && w MODE is 1 && untimed (w BCR2)
-    || op is 11 && not (w MODE is 3)
 
 -- Refusal 7: an outcome, and nothing is in the slot.
 abbrev pub pointless : ℕ → Words → Bool

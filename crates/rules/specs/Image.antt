@@ -1,6 +1,6 @@
 -- "The image": what makes an image good; and what its counters and its mode say.
 use Rattle.std.specs.Prelude.{ℕ, ◌%◌, ◌^◌, ◌<◌, ◌≤◌, ◌≡◌, Bool, true, false, ◌&&◌, ◌||◌, ltb, List, [], ◌∷◌, ◌≢◌, length}
-use Rattle.rules.specs.Words.{Words, ◌has◌, ◌is◌, words, box, among, MC, MD, TRS, TRR, TA, AA, RMP, RML, RFP, CDR, MBTIF, GIF, GIM, BCR1, BCR2, TSC, TEC, REC, MODE, WAITING, SLOT, RECOVERY, OPTIONS, TSO, TESTS, PROFILE, e_can, empty_slot, place, is_mask}
+use Rattle.rules.specs.Words.{Words, ◌has◌, ◌is◌, words, box, among, MC, MD, TRS, TRR, TA, AA, RMP, RML, RFP, CDR, MBTIF, GIF, GIM, BCR1, BCR2, TSC, TEC, REC, MODE, WAITING, SLOT, RECOVERY, OPTIONS, TSO, PROFILE, e_can, empty_slot, place, is_mask}
 
 -- The image, a mailbox: without IDE the low 18 bits of word 0 are zero; of word 1 bits 15 to 5 are zero. The DLC, the lowest four bits of
 -- word 1, may be any (document 02, c).
@@ -20,12 +20,12 @@ pub record GoodWords (w : Words) : Type 0 where
   pub trr : (n : ℕ) → w TRR has n ≡ true → (n ≡ w SLOT) × (w TRS has n ≡ true)
   pub rml_rfp : (k n : ℕ) → among k (RML ∷ RFP ∷ []) ≡ true → w k has n ≡ true → w RMP has n ≡ true
   pub masks : (t : ℕ) → is_mask t ≡ true → (w (place t) has 30 ≡ false) × (w (place t) has 29 ≡ false)
-  -- ranges; by document 02, h), word 28 has the test modes, and 29 to 31 are zero
+  -- ranges
   pub gif : (w GIF < 256) × (w GIM < 256)
   pub bcr : (w BCR1 < 1024) × (w BCR2 < 1024)
   pub counters : (w TSC < 65536) × (w TEC ≤ 256) × (w REC ≤ 255)
-  pub states : (w MODE ≤ 3) × (w WAITING ≤ 4) × (w SLOT ≤ empty_slot) × (w RECOVERY ≤ 127) × (w OPTIONS ≤ 3) × (w TSO ≤ 1) × (w TESTS ≤ 3)
-  pub spare : (w 29 ≡ 0) × (w 30 ≡ 0) × (w 31 ≡ 0)
+  pub states : (w MODE ≤ 3) × (w WAITING ≤ 4) × (w SLOT ≤ empty_slot) × (w RECOVERY ≤ 127) × (w OPTIONS ≤ 3) × (w TSO ≤ 1)
+  pub spare : (w 28 ≡ 0) × (w 29 ≡ 0) × (w 30 ≡ 0) × (w 31 ≡ 0)
   -- states that belong together: what a mailbox in the slot asks for, so that 31 is never in that of a CAN-B; bus off and its recovery; a
   -- mode that waits (4 is none) and what it waits for; sleep
   pub filled : w SLOT ≢ empty_slot → (w MODE ≡ 0) × (w TEC < 256) × (w TRS has w SLOT ≡ true) × (w MC has w SLOT ≡ true)

@@ -67,13 +67,6 @@ pub record Unsent (t : ℕ) (was now : Words) : Type 0 where
 abbrev pub unacknowledged_tec : Words → ℕ
 unacknowledged_tec was = cond (passive was) (was TEC) (was TEC + 8)
 
--- Document 02, h), test error mode: a write of register 33 gives both error counters the value.
-pub record Counters (v : ℕ) (was now : Words) : Type 0 where
-  pub tec : now TEC ≡ v
-  pub rec : now REC ≡ v
-  pub gif : Gif nothing was now
-  pub rest : Only (TEC ∷ REC ∷ GIF ∷ []) was now
-
 -- A receive error, on the bus, adds to REC, which stops at 255.
 pub record ReceiveError (more : ℕ) (was now : Words) : Type 0 where
   pub rec : now REC ≡ cond (on_bus was) (at_most 255 (was REC + more)) (was REC)

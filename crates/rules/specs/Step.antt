@@ -1,11 +1,11 @@
 -- The rulebook together: what one event leaves, and what a call answers.
-use Rattle.std.specs.Prelude.{ℕ, ◌+◌, ◌*◌, ◌%◌, ◌<◌, ◌≤◌, ◌≡◌, true, false, List, [], ◌∷◌, ◌≢◌, length}
+use Rattle.std.specs.Prelude.{ℕ, ◌+◌, ◌*◌, ◌%◌, ◌<◌, ◌≤◌, ◌≡◌, List, [], ◌∷◌, ◌≢◌, length}
 use Rattle.answers.specs.Answer.{Outcome}
-use Rattle.rules.specs.Words.{Words, words, byte, box, at_most, Only, BoxesStayBut, TSC, TEC, SLOT, OPTIONS, TESTS, COUNTERS, PROFILE, loops_back}
-use Rattle.rules.specs.Events.{operation, target, word, value, echo, Applies, FirstRefusal, Answers}
+use Rattle.rules.specs.Words.{Words, words, byte, box, at_most, Only, BoxesStayBut, TSC, TEC, SLOT, OPTIONS, PROFILE}
+use Rattle.rules.specs.Events.{operation, target, word, value, Applies, FirstRefusal, Answers}
 use Rattle.rules.specs.Writing.{Write, BoxWrite}
 use Rattle.rules.specs.Receiving.{Frame}
-use Rattle.rules.specs.Sending.{Start, Sent, Unsent, unacknowledged_tec, Counters, ReceiveError, Recessive, Tick, Mode, Ending}
+use Rattle.rules.specs.Sending.{Start, Sent, Unsent, unacknowledged_tec, ReceiveError, Recessive, Tick, Mode, Ending}
 use Rattle.rules.specs.Fresh.{FreshWords}
 
 -- The events: an accepted one answers mailbox 32, count 0 where nothing else is said. Here no mailbox byte changes either.
@@ -16,36 +16,18 @@ Quiet s o = Answers 32 0 o × BoxesStayBut 32 s o.image
 abbrev pub stamped : List ℕ → ℕ → ℕ
 stamped s n = words s TSC * 65536 + box s n 1 % 65536
 
--- Sending, outcome sent: the sender's flags, and its time stamp.
-abbrev pub Sends : List ℕ → Words → Words → List ℕ → Type 0
-Sends s was now x = Sent was now × BoxWrite (was SLOT) 1 (stamped s (was SLOT)) s x
-
--- Document 02, h), loop-back: the sender's flags and stamp come first, and leave the image `between`. There the frame that the sender's
--- mailbox held is heard as any other, with what it does to REC and with its count; but the answer names the sender. The length and the
--- bytes of `between` are asked for so that there is one such image only.
-pub record Looped (s : List ℕ) (was now : Words) (o : Outcome) : Type 0 where
-  pub between : List ℕ
-  pub sends : Sends s was (words between) between
-  pub size : (length between ≡ 776) × ((i : ℕ) → byte between i < 256)
-  pub receiver : ℕ
-  pub hears : Frame between (echo s (was SLOT)) (words between) now (record { image = o.image; refusal = 0; mailbox = receiver; count = o.count })
-  pub names : o.mailbox ≡ was SLOT
-
 -- Sending, every outcome but sent: no mailbox byte changes, and the answer names what was in the slot. TEC becomes t.
 abbrev pub Fails : ℕ → List ℕ → Words → Words → Outcome → Type 0
 Fails t s was now o = Unsent t was now × BoxesStayBut 32 s o.image × Answers (was SLOT) 0 o
 
 -- What each operation itself does: `was` are the register words before, `now` those before a waiting mode is taken. Of the outcomes, lost
--- arbitration leaves TEC, and an error adds 8, up to 256; a missing acknowledgement is that of document 02, b). Of register 33
--- (document 02, h) `Write` says nothing; `Counters` says what becomes of the words.
+-- arbitration leaves TEC, and an error adds 8, up to 256; a missing acknowledgement is that of document 02, b).
 pub record Does (s e : List ℕ) (was now : Words) (o : Outcome) : Type 0 where
   pub register : operation e ≡ 0 → Write (target e) (value e) was now × Quiet s o
-  pub counters : operation e ≡ 0 → target e ≡ COUNTERS → Counters (value e) was now
   pub mailbox : operation e ≡ 1 → BoxWrite (target e) (word e) (value e) s o.image × Only [] was now × Answers 32 0 o
   pub frame : operation e ≡ 2 → Frame s e was now o
   pub start : operation e ≡ 3 → Start s was now o.mailbox × (o.count ≡ 0) × BoxesStayBut 32 s o.image
-  pub sent : operation e ≡ 4 → target e ≡ 0 → loops_back was ≡ false → Sends s was now o.image × Answers (was SLOT) 0 o
-  pub looped : operation e ≡ 4 → target e ≡ 0 → loops_back was ≡ true → Looped s was now o
+  pub sent : operation e ≡ 4 → target e ≡ 0 → Sent was now × BoxWrite (was SLOT) 1 (stamped s (was SLOT)) s o.image × Answers (was SLOT) 0 o
   pub lost : operation e ≡ 4 → target e ≡ 1 → Fails (was TEC) s was now o
   pub error : operation e ≡ 4 → target e ≡ 2 → Fails (at_most 256 (was TEC + 8)) s was now o
   pub unacknowledged : operation e ≡ 4 → target e ≡ 3 → Fails (unacknowledged_tec was) s was now o
@@ -55,7 +37,6 @@ pub record Does (s e : List ℕ) (was now : Words) (o : Outcome) : Type 0 where
   pub mode : operation e ≡ 8 → Mode (value e) was now × Quiet s o
   pub options : operation e ≡ 9 → (now OPTIONS ≡ value e) × Only (OPTIONS ∷ []) was now × Quiet s o
   pub reset : operation e ≡ 10 → FreshWords (was PROFILE) now × Quiet s o
-  pub tests : operation e ≡ 11 → (now TESTS ≡ value e) × Only (TESTS ∷ []) was now × Quiet s o
 
 -- An accepted event: what it does itself, then a waiting mode; what is left is 776 bytes again.
 pub record Accepted (s e : List ℕ) (o : Outcome) : Type 0 where

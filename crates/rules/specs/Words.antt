@@ -131,10 +131,6 @@ OPTIONS = 26
 abbrev pub TSO : ℕ
 TSO = 27
 
--- Document 02, h): the test modes.
-abbrev pub TESTS : ℕ
-TESTS = 28
-
 -- Document 02, g): behind them, in the same count, the mask of each mailbox, that of mailbox n at MASKS + n; the protection word; the profile.
 abbrev pub MASKS : ℕ
 MASKS = 32
@@ -148,18 +144,6 @@ PROFILE = 65
 -- Document 02, g): the profile says which controller it is: 0 the CAN-B, 1 the eCAN.
 abbrev pub e_can : Words → Bool
 e_can w = w PROFILE is 1
-
--- Document 02, h): the two test modes: in loop-back (bit 0) a frame that is sent comes back to the unit itself; in test error mode (bit 1)
--- the error counters can be written, both as one register.
-abbrev pub loops_back : Words → Bool
-loops_back w = w TESTS has 0
-
-abbrev pub tests_errors : Words → Bool
-tests_errors w = w TESTS has 1
-
--- Document 02, h): the number of that register. It is no word of the image.
-abbrev pub COUNTERS : ℕ
-COUNTERS = 33
 
 -- Document 02, g): the slot where no mailbox is being sent.
 abbrev pub empty_slot : ℕ
@@ -184,14 +168,6 @@ is_mask t = among t (LAM ∷ GAM ∷ []) || leb 64 t && leb t 95
 abbrev pub Only : List ℕ → Words → Words → Type 0
 Only l was now = (k : ℕ) → among k l ≡ false → now k ≡ was k
 
--- Byte i is none of mailbox n's.
-abbrev pub Outside : ℕ → ℕ → Type 0
-Outside n i = (i < 16 * n) ⊎ (16 * n + 16 ≤ i)
-
 -- Between the images s and x, of the mailboxes' bytes only those of mailbox n may differ; with 32 none may.
 abbrev pub BoxesStayBut : ℕ → List ℕ → List ℕ → Type 0
-BoxesStayBut n s x = (i : ℕ) → i < 512 → Outside n i → byte x i ≡ byte s i
-
--- The same of two mailboxes.
-abbrev pub BoxesStayButTwo : ℕ → ℕ → List ℕ → List ℕ → Type 0
-BoxesStayButTwo m n s x = (i : ℕ) → i < 512 → Outside m i → Outside n i → byte x i ≡ byte s i
+BoxesStayBut n s x = (i : ℕ) → i < 512 → ((i < 16 * n) ⊎ (16 * n + 16 ≤ i)) → byte x i ≡ byte s i

@@ -5,22 +5,20 @@ use Rattle.bits.specs.Bit.{digit}
 use Rattle.bits.specs.Below.{all_below, count_below, first_below}
 use Rattle.words.specs.Word.{word_at, put_word, words_of, put_words}
 use Rattle.registers.specs.Block.{block_of, put_block, e_can}
-use Rattle.registers.specs.Writes.{direction, requested, written}
+use Rattle.registers.specs.Writes.{direction, written}
 use Rattle.registers.specs.Modes.{asked, risen, entered, settled}
 use Rattle.registers.specs.Frames.{listened, stored}
-use Rattle.registers.specs.Sending.{sent}
 use Rattle.mailboxes.specs.Mailbox.{mailbox, with_mailbox}
-use Rattle.mailboxes.specs.Filing.{spliced, filed, stamped}
-use Rattle.events.specs.Parts.{quiet, frame_of, frame_allowed, frame_at}
+use Rattle.mailboxes.specs.Filing.{spliced, filed}
+use Rattle.events.specs.Parts.{quiet, frame_of, frame_allowed}
 use Rattle.events.specs.Decode.{register_allowed, decoded}
 use Rattle.filter.specs.Filter.{seat, candidates, matches, guarded, takes, hits, passes, found, placed, passed_over, delivery}
-use Rattle.sending.specs.Choice.{chosen, next}
 use Rattle.refusals.specs.Refusal.{remaining}
 use Rattle.fresh.specs.Fresh.{fresh_block, zero_image, fresh_image}
 use Rattle.fresh.proofs.Good.{fresh_facts}
-use Rattle.model.specs.Step.{own, goes, delivered, block_after, stowed, rewritten, masked, postmarked, beside_after, named}
+use Rattle.model.specs.Step.{own, goes, delivered, block_after, stowed, rewritten, masked, beside_after, named}
 use Rattle.books.specs.Frames.{passed_in}
-use Rattle.sample.specs.Overload.{overload, story, watch, shielded, shielded_story}
+use Rattle.sample.specs.Overload.{overload, story, watch}
 use Rattle.sample.proofs.Pass.{in_row, walked, are_bytes_lem, glances, tally, AllBytes, in_one_tally, in_one-watch}
 
 bytes : AllBytes overload
@@ -40,24 +38,3 @@ tallied = refl
 -- one frame of the five was passed over
 pub passed_once : passed_in e_can overload ≡ 1
 passed_once = in_one_tally passed_over (fresh_image e_can) overload (fresh_facts e_can (lit≤ tt)) bytes ∙ tallied
-
--- ---- in loop-back
-
-shielded-bytes : AllBytes shielded
-shielded-bytes = are_bytes_lem shielded (unfold shielded in refl)
-
-shielded_glanced : glances (fresh_image e_can) shielded ≡ shielded_story
-unfolding digit all_below count_below first_below word_at put_word words_of put_words block_of put_block fresh_block direction requested written asked risen entered settled listened stored sent mailbox with_mailbox spliced filed stamped quiet frame_of frame_allowed frame_at register_allowed decoded seat candidates matches guarded takes hits passes found placed passed_over delivery chosen next remaining zero_image fresh_image own goes delivered block_after stowed masked postmarked beside_after named in_row walked glances shielded
-shielded_glanced = refl
-
-pub shielded_so : watch (fresh_image e_can) shielded ≡ shielded_story
-shielded_so = in_one-watch (fresh_image e_can) shielded (fresh_facts e_can (lit≤ tt)) shielded-bytes ∙ shielded_glanced
-
-shielded_tallied : tally passed_over (fresh_image e_can) shielded ≡ 1
-unfolding digit all_below count_below first_below word_at put_word words_of put_words block_of put_block fresh_block direction requested written asked risen entered settled listened stored sent mailbox with_mailbox spliced filed stamped quiet frame_of frame_allowed frame_at register_allowed decoded seat candidates matches guarded takes hits passes found placed passed_over delivery chosen next remaining zero_image fresh_image own goes delivered block_after stowed masked postmarked beside_after named in_row walked tally shielded
-shielded_tallied = refl
-
--- one of the two frames was passed over
-pub shielded_once : passed_in e_can shielded ≡ 1
-shielded_once =
-    in_one_tally passed_over (fresh_image e_can) shielded (fresh_facts e_can (lit≤ tt)) shielded-bytes ∙ shielded_tallied

@@ -20,12 +20,11 @@ use Rattle.good.proofs.Image.{GoodImage, image-good}
 use Rattle.refusals.specs.Refusal.{refusal, remaining}
 use Rattle.refusals.proofs.Order.{refusal-good}
 use Rattle.answers.specs.Answer.{Outcome, no_mailbox, refused}
-use Rattle.model.specs.Step.{brings, brought, goes, block_after, beside_after, count_of, named, accepted, step}
+use Rattle.model.specs.Step.{goes, block_after, beside_after, count_of, named, accepted, step}
 use Rattle.model.proofs.Kept.{step-good}
 use Rattle.books.specs.Ledger.{Happening, one}
 use Rattle.books.specs.Happen.{happens, happenings, history}
-use Rattle.books.specs.Frames.{counted, frames_in}
-use Rattle.sample.specs.Run.{diary}
+use Rattle.books.specs.Frames.{is_frame, brings, frames_in}
 use Rattle.sample.specs.Overload.{Seen, seen, seen_of, watch}
 
 -- ---- words put into a list in one walk, where put_words walks it for every byte
@@ -101,14 +100,14 @@ taken s e = eqb (remaining s (decoded (asleep (block_of s)) (ecan (block_of s)) 
 abbrev pub quick : List ℕ → List ℕ → List ℕ
 quick s e = cond (taken s e) (onward s (event e)) s
 
--- the happenings at a mailbox, step by step, the frames that pass a test, and what is seen, by such steps
-unfoldable pub pages : ℕ → List ℕ → List (List ℕ) → List (List Happening)
-pages m s [] = []
-pages m s (e ∷ l) = cond (taken s e) (happens s (event e) m) [] ∷ pages m (quick s e) l
+-- the happenings at a mailbox, the frames that pass a test, and what is seen, by such steps
+unfoldable pub pass : ℕ → List ℕ → List (List ℕ) → List Happening
+pass m s [] = []
+pass m s (e ∷ l) = cond (taken s e) (happens s (event e) m) [] ++ pass m (quick s e) l
 
 unfoldable pub tally : (List ℕ → Frame → Bool) → List ℕ → List (List ℕ) → ℕ
 tally test s [] = 0
-tally test s (e ∷ l) = one (taken s e && (brings s (event e) && test s (brought s (event e)))) + tally test (quick s e) l
+tally test s (e ∷ l) = one (taken s e && is_frame (test s) (event e)) + tally test (quick s e) l
 
 abbrev pub glance : List ℕ → List ℕ → Seen
 glance s e =
@@ -170,28 +169,19 @@ module _ (s e : List ℕ) (g : GoodImage s) where
   goes_on : Bytes e → GoodImage (step s e).image
   goes_on b = step-good s e g.bytes b (image-good s g)
 
-pub in_one-diary : (m : ℕ) (s : List ℕ) (l : List (List ℕ)) → GoodImage s → AllBytes l → diary m s l ≡ pages m s l
-unfolding diary happenings pages
-in_one-diary m s [] g b = refl
-in_one-diary m s (e ∷ l) g b =
-    ap₂ (λ (t : Bool) (r : List (List Happening)). cond t (happens s (event e) m) [] ∷ r) (as_taken s e g)
-    (in_one-diary m (step s e).image l (goes_on s e g b.0) b.1 ∙ ap (λ (x : List ℕ). pages m x l) (goes_quick s e g))
-
--- a history is its diary without the pages
-abbrev pub joined : List (List Happening) → List Happening
-joined [] = []
-joined (h ∷ l) = h ++ joined l
-
-pub history_joined : (m : ℕ) (s : List ℕ) (l : List (List ℕ)) → history m s l ≡ joined (diary m s l)
-unfolding history diary
-history_joined m s [] = refl
-history_joined m s (e ∷ l) = ap (λ (r : List Happening). happenings s e m ++ r) (history_joined m (step s e).image l)
+pub in_one_pass : (m : ℕ) (s : List ℕ) (l : List (List ℕ)) → GoodImage s → AllBytes l → history m s l ≡ pass m s l
+unfolding history happenings pass
+in_one_pass m s [] g b = refl
+in_one_pass m s (e ∷ l) g b =
+    ap (λ (t : Bool). cond t (happens s (event e) m) [] ++ history m (step s e).image l) (as_taken s e g)
+    ∙ ap (λ (r : List Happening). cond (taken s e) (happens s (event e) m) [] ++ r)
+    (in_one_pass m (step s e).image l (goes_on s e g b.0) b.1 ∙ ap (λ (x : List ℕ). pass m x l) (goes_quick s e g))
 
 pub in_one_tally : (test : List ℕ → Frame → Bool) (s : List ℕ) (l : List (List ℕ)) → GoodImage s → AllBytes l → frames_in test s l ≡ tally test s l
-unfolding frames_in counted tally
+unfolding frames_in brings tally
 in_one_tally test s [] g b = refl
 in_one_tally test s (e ∷ l) g b =
-    ap₂ (λ (t : Bool) (n : ℕ). one (t && (brings s (event e) && test s (brought s (event e)))) + n) (as_taken s e g)
+    ap₂ (λ (t : Bool) (n : ℕ). one (t && is_frame (test s) (event e)) + n) (as_taken s e g)
     (in_one_tally test (step s e).image l (goes_on s e g b.0) b.1 ∙ ap (λ (x : List ℕ). tally test x l) (goes_quick s e g))
 
 pub in_one-watch : (s : List ℕ) (l : List (List ℕ)) → GoodImage s → AllBytes l → watch s l ≡ glances s l

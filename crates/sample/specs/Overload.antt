@@ -1,10 +1,9 @@
--- The worked case of source document 002, section 3.2.5, in an eCAN: three mailboxes for one identifier, of which two are protected; and a
--- run in loop-back (document 02, h), whose second frame of our own is passed over.
+-- The worked case of source document 002, section 3.2.5, in an eCAN: three mailboxes for one identifier, of which two are protected.
 use Rattle.std.specs.Prelude.{ℕ, List, [], ◌∷◌, ◌++◌, replicate}
 use Rattle.registers.specs.Block.{block_of}
 use Rattle.answers.specs.Answer.{Outcome}
 use Rattle.model.specs.Step.{step}
-use Rattle.sample.specs.Run.{write, mode, tests, send_of}
+use Rattle.sample.specs.Run.{write, mode}
 
 -- An event whose value is the standard identifier 0x123, which stands in bits 28 to 18: mailbox n gets it as its word 0; a data frame
 -- without data brings it.
@@ -58,15 +57,3 @@ abbrev pub story : List Seen
 story =
     replicate 8 (seen 32 0 0 0)
     ++ (seen 5 1 0x20 0 ∷ seen 4 2 0x30 0 ∷ seen 3 3 0x38 0 ∷ seen 3 3 0x38 8 ∷ seen 32 0 0x38 8 ∷ seen 32 3 0x38 8 ∷ [])
-
--- Document 02, h): a frame of our own is passed over too. In loop-back mailbox 5 is sent twice; mailbox 3 receives and is protected.
-unfoldable pub shielded : List (List ℕ)
-shielded =
-    (write 18 0x25 ∷ write 1 8 ∷ write 96 8 ∷ write 0 0x28 ∷ mode 0 ∷ mode 3 ∷ tests 1 ∷ mode 0 ∷ []) ++ send_of 0x20 ++ send_of 0x20
-
--- After eight steps that prepare it, twice a request, a start and the outcome: the first frame goes to mailbox 3, and the second one is passed
--- over by it, so that neither RMP nor RML changes. Both times the outcome's answer names the sender, and one mailbox was compared.
-abbrev pub shielded_story : List Seen
-shielded_story =
-    replicate 8 (seen 32 0 0 0)
-    ++ (seen 32 0 0 0 ∷ seen 5 0 0 0 ∷ seen 5 1 8 0 ∷ seen 32 0 8 0 ∷ seen 5 0 8 0 ∷ seen 5 1 8 0 ∷ [])

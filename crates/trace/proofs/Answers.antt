@@ -7,11 +7,10 @@ use native.Mathlib.Omega.{arith}
 use lib.Dec.{eqb, lit≤}
 use borrow.Author.Tests.{eqb-true}
 use Rattle.events.specs.declared.Event.{Event}
-use Rattle.events.specs.declared.Event.TheVariants.{Refused, Register, Mailbox, Heard, Start, Outcome, ReceiveError, Recessive, Tick, Mode, Options, Reset, Tests}
+use Rattle.events.specs.declared.Event.TheVariants.{Refused, Register, Mailbox, Heard, Start, Outcome, ReceiveError, Recessive, Tick, Mode, Options, Reset}
 use Rattle.events.specs.declared.Frame.{Frame}
 use Rattle.events.specs.Decode.{event}
 use Rattle.filter.specs.declared.Delivery.{Delivery}
-use Rattle.filter.specs.declared.Delivery.TheVariants.{Nowhere}
 use Rattle.filter.specs.Filter.{delivery}
 use Rattle.filter.proofs.Ways.{Way, off_bus, no_match, stored, replied, ignored, way}
 use Rattle.sending.proofs.Choice.{next-most}
@@ -21,7 +20,7 @@ use Rattle.refusals.specs.Refusal.{refusal}
 use Rattle.refusals.proofs.Order.{refusal-bad, refusal-most}
 use Rattle.answers.specs.Answer.{Outcome as Result, refused, packed}
 use Rattle.answers.proofs.Parts.{refusal_of, mailbox_of, count_of_lem}
-use Rattle.model.specs.Step.{loops, sent_frame, goes, named, named_by, count_of, accepted, step}
+use Rattle.model.specs.Step.{goes, named, named_by, count_of, accepted, step}
 use Rattle.trace.specs.Trace.{line_of, line}
 
 -- ---- a frame
@@ -57,7 +56,6 @@ module _ (s : List ℕ) (g : good_image s ≡ true) where
   named_small (Mode m) = lit≤ tt
   named_small (Options v) = lit≤ tt
   named_small Reset = lit≤ tt
-  named_small (Tests v) = lit≤ tt
 
   count_small : (v : Event) → count_of (goes s v) ≤ 32
   unfolding goes
@@ -66,18 +64,13 @@ module _ (s : List ℕ) (g : good_image s ≡ true) where
   count_small (Mailbox n k v) = lit≤ tt
   count_small (Heard f) = (delivered_small s f).count
   count_small Start = lit≤ tt
-  count_small (Outcome k) = at (loops s k)
-    where
-      at : (t : Bool) → count_of (cond t (delivery s (sent_frame s)) (Nowhere 0)) ≤ 32
-      at true = (delivered_small s (sent_frame s)).count
-      at false = lit≤ tt
+  count_small (Outcome k) = lit≤ tt
   count_small (ReceiveError v) = lit≤ tt
   count_small Recessive = lit≤ tt
   count_small Tick = lit≤ tt
   count_small (Mode m) = lit≤ tt
   count_small (Options v) = lit≤ tt
   count_small Reset = lit≤ tt
-  count_small (Tests v) = lit≤ tt
 
 -- ---- any step
 

@@ -44,27 +44,27 @@ pub fn put_word(s: &mut [u8], at: usize, v: u32)
     s[at + 3] = (v / 16777216 % 256) as u8;
 }
 
-// 29 words in a row, the first at `at`.
-pub fn load_words(s: &[u8], at: usize) -> [u32; 29]
-    requires { at + 116 ≤ length s.now }
-    ensures { result ≡ words_of s.now at 29 }
+// 28 words in a row, the first at `at`.
+pub fn load_words(s: &[u8], at: usize) -> [u32; 28]
+    requires { at + 112 ≤ length s.now }
+    ensures { result ≡ words_of s.now at 28 }
 {
-    let mut row = [0u32; 29];
+    let mut row = [0u32; 28];
     let mut i: usize = 0;
-    while i < 29 {
+    while i < 28 {
         row[i] = word_at(s, at + 4 * i);
         i += 1;
     }
     row
 }
 
-// 29 words in a row, put from `at` on.
-pub fn put_words(s: &mut [u8], at: usize, row: [u32; 29])
-    requires { at + 116 ≤ length s.old }
+// 28 words in a row, put from `at` on.
+pub fn put_words(s: &mut [u8], at: usize, row: [u32; 28])
+    requires { at + 112 ≤ length s.old }
     ensures { s.new ≡ put_words s.old at row }
 {
     let mut i: usize = 0;
-    while i < 29 {
+    while i < 28 {
         put_word(s, at + 4 * i, row[i]);
         i += 1;
     }

@@ -1,7 +1,6 @@
 use mathlib.Core.Path.{sym, ◌∙◌}
-use Rattle.events.specs.declared.Event.TheVariants.{Mode, Tests}
 use Rattle.events.specs.Decode.{decoded_as}
-use Rattle.events.proofs.Laws.{operations, decoded_as_lem, decoded_long, decoded-none, none_below, plain_or, choice_or, any-profile}
+use Rattle.events.proofs.Laws.{operations, decoded_as_lem, decoded_long, decoded-none, none_below, plain_or, any-profile}
 use Rattle.events.proofs.decode.Goals as goal
 
 pub returns-then-e-ne16 : goal.returns-then-e-ne16
@@ -58,11 +57,9 @@ returns-in-7 c =
     ∙ sym (decoded_as_lem _ _ _ 7 c.if-e-ne16.false (sym c.byte_at-op.ensures ∙ c.in-7.is))
 
 pub returns-in-8 : goal.returns-in-8
-unfolding decoded_as
 returns-in-8 c =
-    let v = c.value in
-    c.choice_event.ensures
-    ∙ choice_or Mode _ v.result v.ensures
+    c.mode_event.ensures
+    ∙ any-profile 7 _ _ _ _
     ∙ sym (decoded_as_lem _ _ _ 8 c.if-e-ne16.false (sym c.byte_at-op.ensures ∙ c.in-8.is))
 
 pub returns-in-9 : goal.returns-in-9
@@ -77,14 +74,6 @@ returns-in-10 c =
     c.plain_event-in-10.ensures
     ∙ plain_or _ _
     ∙ sym (decoded_as_lem _ _ _ 10 c.if-e-ne16.false (sym c.byte_at-op.ensures ∙ c.in-10.is))
-
-pub returns-in-11 : goal.returns-in-11
-unfolding decoded_as
-returns-in-11 c =
-    let v = c.value-in-11 in
-    c.choice_event-in-11.ensures
-    ∙ choice_or Tests _ v.result v.ensures
-    ∙ sym (decoded_as_lem _ _ _ 11 c.if-e-ne16.false (sym c.byte_at-op.ensures ∙ c.in-11.is))
 
 pub returns-in_default : goal.returns-in_default
 returns-in_default c =

@@ -1,4 +1,4 @@
-use Rattle.events.specs.declared.Event.TheVariants.{Refused, Register, Mailbox, Heard, Start, Outcome, ReceiveError, Recessive, Tick, Mode, Options, Reset, Tests}
+use Rattle.events.specs.declared.Event.TheVariants.{Refused, Register, Mailbox, Heard, Start, Outcome, ReceiveError, Recessive, Tick, Mode, Options, Reset}
 use Rattle.model.specs.Parts.{Sized}
 use Rattle.model.proofs.Meets.{as_case}
 use Rattle.model.proofs.act.Goals as goal
@@ -84,8 +84,3 @@ pub returns-in-Reset : goal.returns-in-Reset
 returns-in-Reset c =
     let a = c.args in
     as_case a.image.now a.e Reset c.in-Reset.is c.reset.ensures
-
-pub returns-in-Tests : goal.returns-in-Tests
-returns-in-Tests c =
-    let a = c.args in
-    as_case a.image.now a.e (Tests c.in-Tests.value) c.in-Tests.is c.choose_tests.ensures

@@ -3,12 +3,12 @@ use Rattle.registers.specs.declared.Block.{Block}
 use Rattle.registers.specs.Block.{put_block}
 use Rattle.registers.specs.Modes.{optioned, risen}
 use Rattle.events.specs.declared.Event.TheVariants.{Options}
-use Rattle.model.specs.Step.{own, named}
+use Rattle.model.specs.Step.{own, goes, beside_after, named}
 use Rattle.model.proofs.Meets.{acts}
 use Rattle.model.proofs.choose_options.Goals as goal
 
 pub returns : goal.returns
-unfolding own named
+unfolding own goes beside_after named
 returns c =
     let s = c.args.image.now in
     let v = c.args.v in

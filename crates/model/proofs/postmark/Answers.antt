@@ -1,5 +1,6 @@
 use Prim.Native.Nat.{◌<◌}
 use mathlib.Core.Path.{◌∙◌, ap}
+use borrow.Author.Tests.{eq-eqb, ne_eqb}
 use native.Mathlib.Omega.{arith}
 use Rattle.registers.specs.declared.Block.{Block}
 use Rattle.mailboxes.specs.Mailbox.{mailbox, with_mailbox}
@@ -10,22 +11,18 @@ use Rattle.model.proofs.postmark.Goals as goal
 
 pub overflow_cast-b : goal.overflow_cast-b
 overflow_cast-b c =
-    let there = c.requires.1 c.if-sent.true in
-    let h : c.load-b.result.slot < 32 = rw c.load-b.ensures there in
+    let h : c.load-b.result.slot < 32 = rw c.load-b.ensures c.requires.1 in
     search (rules, h)
 
 pub put_stamp-requires : goal.put_stamp-requires
-put_stamp-requires c =
-    let p = c.requires in
-    let there = p.1 c.if-sent.true in
-    rw c.load-b.ensures (omega (arith, p.0.size, there), there, p.0.tsc)
+put_stamp-requires c = rw c.load-b.ensures (omega (arith, c.requires.0.size, c.requires.1), c.requires.1, c.requires.0.tsc)
 
-pub returns-then-sent : goal.returns-then-sent
+pub returns-then-kind-eq0 : goal.returns-then-kind-eq0
 unfolding postmarked
-returns-then-sent c =
+returns-then-kind-eq0 c =
     let s = c.args.image.now in
-    rw c.if-sent.true
+    rw (eq-eqb c.args.kind 0 c.if-kind-eq0.true)
     (c.put_stamp.ensures ∙ ap (λ (b : Block). with_mailbox s b.slot (stamped (mailbox s b.slot) b.tsc)) c.load-b.ensures)
 
-pub returns-else-sent : goal.returns-else-sent
-returns-else-sent c = rw c.if-sent.false
+pub returns-else-kind-eq0 : goal.returns-else-kind-eq0
+returns-else-kind-eq0 c = rw (ne_eqb c.args.kind 0 c.if-kind-eq0.false)

@@ -2,7 +2,7 @@ use mathlib.Core.Path.{refl, sym, ◌∙◌, ap}
 use Rattle.registers.specs.Block.{put_block}
 use Rattle.registers.specs.Modes.{recessive, risen}
 use Rattle.events.specs.declared.Event.TheVariants.{Recessive}
-use Rattle.model.specs.Step.{own, named}
+use Rattle.model.specs.Step.{own, goes, beside_after, named}
 use Rattle.model.proofs.Meets.{acts}
 use Rattle.model.proofs.recess.Goals as goal
 
@@ -10,7 +10,7 @@ pub recess-requires : goal.recess-requires
 recess-requires c = rw c.load-b.ensures c.requires.recovery
 
 pub returns : goal.returns
-unfolding own named
+unfolding own goes beside_after named
 returns c =
     let s = c.args.image.now in
     let b = c.load-b.result in

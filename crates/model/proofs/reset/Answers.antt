@@ -4,13 +4,13 @@ use Rattle.registers.specs.Block.{block_of, put_block}
 use Rattle.registers.specs.Modes.{risen}
 use Rattle.fresh.specs.Fresh.{fresh_block}
 use Rattle.events.specs.declared.Event.TheVariants.{Reset}
-use Rattle.model.specs.Step.{own, unmasked, named}
+use Rattle.model.specs.Step.{own, goes, unmasked, beside_after, named}
 use Rattle.model.proofs.Meets.{acts}
 use Rattle.model.proofs.Beside.{unmasked_beside}
 use Rattle.model.proofs.reset.Goals as goal
 
 pub returns : goal.returns
-unfolding own named
+unfolding own goes beside_after named
 returns c =
     let s = c.args.image.now in
     let boxes = c.clear_masks.ensures in

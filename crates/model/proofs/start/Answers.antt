@@ -6,12 +6,12 @@ use Rattle.registers.specs.Modes.{risen}
 use Rattle.events.specs.declared.Event.TheVariants.{Start}
 use Rattle.sending.specs.Choice.{next}
 use Rattle.answers.specs.Answer.{packed}
-use Rattle.model.specs.Step.{started_with, own, named}
+use Rattle.model.specs.Step.{started_with, own, goes, beside_after, named}
 use Rattle.model.proofs.Meets.{acts}
 use Rattle.model.proofs.start.Goals as goal
 
 pub returns : goal.returns
-unfolding own named
+unfolding own goes beside_after named
 returns c =
     let s = c.args.image.now in
     let b = c.load-b.result in

@@ -1,23 +1,37 @@
 use mathlib.Core.Path.{◌∙◌, ap, ap₂}
-use mathlib.Core.Bool.{false}
+use native.Mathlib.Omega.{arith}
+use lib.ListN.{length}
 use Rattle.registers.specs.declared.Block.{Block}
 use Rattle.registers.specs.Block.{block_of, put_block}
 use Rattle.registers.specs.Frames.{stored}
+use Rattle.mailboxes.specs.Mailbox.{mailbox, with_mailbox}
+use Rattle.mailboxes.specs.Filing.{filed}
 use Rattle.filter.specs.declared.Delivery.TheVariants.{Into}
 use Rattle.model.specs.Step.{delivered, stowed}
-use Rattle.model.proofs.Meets.{arrives}
-use Rattle.model.proofs.Beside.{stowed_beside}
+use Rattle.model.proofs.Meets.{delivers}
+use Rattle.model.proofs.Beside.{filed_beside}
 use Rattle.model.proofs.store.Goals as goal
+
+pub put_frame-requires : goal.put_frame-requires
+put_frame-requires c = rw c.load-stamp.ensures (omega (arith, c.requires.0.size, c.requires.2), c.requires.2, c.requires.1.id, c.requires.1.dlc, c.requires.0.tsc)
+
+pub store-requires : goal.store-requires
+store-requires c =
+    let a = c.args in
+    let f = a.f in
+    let beside = filed_beside a.image.now a.n c.requires.0.size c.requires.2 f.ide f.rtr f.id f.dlc f.bytes c.load-stamp.result.tsc in
+    ap length c.put_frame.ensures ∙ beside.size ∙ c.requires.0.size
 
 pub returns : goal.returns
 unfolding delivered stowed
 returns c =
     let a = c.args in
-    let p = c.requires in
+    let s = a.image.now in
+    let n = a.n in
     let f = a.f in
-    let d = Into a.n a.count in
-    let bytes = c.put_frame.ensures in
-    let load = c.load in
-    let l = load.ensures ∙ ap block_of bytes ∙ (stowed_beside a.image.now f d p.0.size p.2).block in
-    let flags = c.hold.ensures ∙ ap (λ (y : Block). stored y a.n f.rtr) c.listen.ensures in
-    arrives a.image.now load.result l f false d p.0.tec (c.store.ensures ∙ ap₂ put_block bytes flags) c.pack.ensures
+    let filing = c.put_frame.ensures in
+    let beside = filed_beside s n c.requires.0.size c.requires.2 f.ide f.rtr f.id f.dlc f.bytes c.load-stamp.result.tsc in
+    let boxes = filing ∙ ap (λ (y : Block). with_mailbox s n (filed (mailbox s n) f.ide f.rtr f.id f.dlc f.bytes y.tsc)) c.load-stamp.ensures in
+    delivers s c.load.result (c.load.ensures ∙ ap block_of filing ∙ beside.block) f (Into n a.count)
+    (c.store.ensures ∙ ap₂ put_block boxes (c.hold.ensures ∙ ap (λ (y : Block). stored y n f.rtr) c.listen.ensures))
+    c.pack.ensures

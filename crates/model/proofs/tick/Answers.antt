@@ -2,7 +2,7 @@ use mathlib.Core.Path.{refl, sym, ◌∙◌, ap}
 use Rattle.registers.specs.Block.{put_block}
 use Rattle.registers.specs.Modes.{ticked, risen}
 use Rattle.events.specs.declared.Event.TheVariants.{Tick}
-use Rattle.model.specs.Step.{own, named}
+use Rattle.model.specs.Step.{own, goes, beside_after, named}
 use Rattle.model.proofs.Meets.{acts}
 use Rattle.model.proofs.tick.Goals as goal
 
@@ -10,7 +10,7 @@ pub tick-requires : goal.tick-requires
 tick-requires c = rw c.load-b.ensures c.requires.tsc
 
 pub returns : goal.returns
-unfolding own named
+unfolding own goes beside_after named
 returns c =
     let s = c.args.image.now in
     let b = c.load-b.result in

@@ -3,7 +3,7 @@ use Rattle.registers.specs.declared.Block.{Block}
 use Rattle.registers.specs.Block.{put_block}
 use Rattle.registers.specs.Modes.{worsened, risen}
 use Rattle.events.specs.declared.Event.TheVariants.{ReceiveError}
-use Rattle.model.specs.Step.{own, named}
+use Rattle.model.specs.Step.{own, goes, beside_after, named}
 use Rattle.model.proofs.Meets.{acts}
 use Rattle.model.proofs.worsen.Goals as goal
 
@@ -11,7 +11,7 @@ pub worsen-requires : goal.worsen-requires
 worsen-requires c = rw c.load-b.ensures (c.requires.0.rec, c.requires.1)
 
 pub returns : goal.returns
-unfolding own named
+unfolding own goes beside_after named
 returns c =
     let s = c.args.image.now in
     let v = c.args.v in

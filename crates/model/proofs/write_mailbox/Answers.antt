@@ -1,13 +1,13 @@
 use mathlib.Core.Path.{refl, sym, ◌∙◌, ap, ap₂}
 use Rattle.registers.specs.Block.{block_of, put_block}
 use Rattle.events.specs.declared.Event.TheVariants.{Mailbox}
-use Rattle.model.specs.Step.{rewritten, own, named}
+use Rattle.model.specs.Step.{rewritten, own, goes, beside_after, named}
 use Rattle.model.proofs.Meets.{acts}
 use Rattle.model.proofs.Beside.{rewritten_beside}
 use Rattle.model.proofs.write_mailbox.Goals as goal
 
 pub returns : goal.returns
-unfolding own named rewritten
+unfolding own goes beside_after named rewritten
 returns c =
     let s = c.args.image.now in
     let n = c.args.n in

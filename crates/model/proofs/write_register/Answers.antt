@@ -4,7 +4,7 @@ use Rattle.registers.specs.Block.{block_of, put_block}
 use Rattle.registers.specs.Writes.{written}
 use Rattle.registers.specs.Modes.{risen}
 use Rattle.events.specs.declared.Event.TheVariants.{Register}
-use Rattle.model.specs.Step.{own, masked, named}
+use Rattle.model.specs.Step.{own, goes, masked, beside_after, named}
 use Rattle.model.proofs.Meets.{acts}
 use Rattle.model.proofs.Beside.{masked_beside}
 use Rattle.model.proofs.write_register.Goals as goal
@@ -15,7 +15,7 @@ write-requires c =
     rw (c.load-b.ensures ∙ ap block_of c.put_mask.ensures ∙ (masked_beside a.image.now a.t a.v).block) c.requires.slot
 
 pub returns : goal.returns
-unfolding own named
+unfolding own goes beside_after named
 returns c =
     let s = c.args.image.now in
     let t = c.args.t in

@@ -11,4 +11,4 @@ returns-then-t-eq1 c =
 pub returns : goal.returns
 returns c =
     let a = c.args in
-    rw (ne_eqb a.t 1 c.if-t-eq1.false, c.is_counters_locked.ensures, c.is_foreign.ensures)
+    rw (ne_eqb a.t 1 c.if-t-eq1.false, c.is_foreign.ensures)

@@ -5,7 +5,7 @@ use Rattle.bits.specs.Tests.{first_from}
 use Rattle.registers.specs.declared.Block.{Block}
 use Rattle.registers.specs.Status.{vacant}
 use Rattle.mailboxes.specs.Mailbox.{mailbox_word}
-use Rattle.refusals.specs.Refusal.{register_busy, register_locked, mailbox_busy, mailbox_locked, mode_open, tests_locked, remaining}
+use Rattle.refusals.specs.Refusal.{register_busy, register_locked, mailbox_busy, mailbox_locked, mode_open, remaining}
 use Rattle.refusals.proofs.remaining_refusal.Goals as goal
 
 pub mailbox_refusal-requires : goal.mailbox_refusal-requires
@@ -26,7 +26,7 @@ returns-in-Register c =
     c.first.ensures
     ∙ ap₂ (λ (x y : Bool). first_from 5 (x ∷ y ∷ []))
     (c.is_register_busy.ensures ∙ ap (λ (b : Block). register_busy b t v) c.requires.1)
-    (c.is_register_locked.ensures ∙ ap (λ (b : Block). register_locked b t v) c.load.ensures)
+    (c.is_register_locked.ensures ∙ ap (λ (b : Block). register_locked b t v) c.requires.1)
     ∙ ap (remaining s) (sym c.in-Register.is)
 
 pub returns-in-Mailbox : goal.returns-in-Mailbox
@@ -74,7 +74,3 @@ returns-in-Options c = ap (remaining c.args.s.now) (sym c.in-Options.is)
 pub returns-in-Reset : goal.returns-in-Reset
 unfolding remaining
 returns-in-Reset c = ap (remaining c.args.s.now) (sym c.in-Reset.is)
-
-pub returns-in-Tests : goal.returns-in-Tests
-unfolding remaining
-returns-in-Tests c = c.choose-in-Tests.ensures ∙ ap (λ (b : Block). cond (tests_locked b) 6 0) c.requires.1 ∙ ap (remaining c.args.s.now) (sym c.in-Tests.is)

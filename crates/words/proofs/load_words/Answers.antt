@@ -22,6 +22,6 @@ pub returns : goal.returns
 returns c =
     let l = c.loop-i in
     let a = c.args in
-    let i29 : l.i ≡ 29 = omega arith in
-    ext_get_or 0 _ _ (l.invariant.1 ∙ sym (length-words a.s.now a.at 29))
-    (λ k hk. l.invariant.2 k (omega arith) ∙ sym (word_of a.s.now a.at 29 k (omega arith)))
+    let i28 : l.i ≡ 28 = omega arith in
+    ext_get_or 0 _ _ (l.invariant.1 ∙ sym (length-words a.s.now a.at 28))
+    (λ k hk. l.invariant.2 k (omega arith) ∙ sym (word_of a.s.now a.at 28 k (omega arith)))

@@ -4,7 +4,7 @@ use native.Mathlib.Omega.{arith}
 use lib.Dec.{lit<}
 use Rattle.bits.proofs.Below.{past}
 use Rattle.registers.specs.Block.{with_md, with_ta, with_aa, with_mbtif, with_mbrif}
-use Rattle.registers.proofs.Table.{written_at, written-counters, written_protection, written_none}
+use Rattle.registers.proofs.Table.{written_at, written_protection, written_none}
 use Rattle.registers.proofs.Block.write.Goals as goal
 
 pub returns-in-2 : goal.returns-in-2
@@ -67,14 +67,11 @@ returns-in-18 c = sym (written_at c.args.self c.args.t 18 c.args.v c.in-18.is (l
 pub returns-in-19 : goal.returns-in-19
 returns-in-19 c = sym (written_at c.args.self c.args.t 19 c.args.v c.in-19.is (lit< tt))
 
-pub returns-in-33 : goal.returns-in-33
-returns-in-33 c = sym (written-counters c.args.self c.args.t c.args.v c.in-33.is)
-
 pub returns-in-96 : goal.returns-in-96
 returns-in-96 c = sym (written_protection c.args.self c.args.t c.args.v c.in-96.is)
 
 pub returns-in_default : goal.returns-in_default
 returns-in_default c =
     let r = c.in_default.in_default-own.rest in
-    let h : 20 ≤ c.args.t = past 19 (past 18 (past 17 (past 16 (past 15 (past 14 (past 13 (past 12 (past 11 (past 10 (past 9 (past 8 (past 7 (past 6 (past 5 (past 4 (past 3 (past 2 (past 1 (past 0 (omega arith) r.0.0.0.0.0.0.0.0.0.0.0.0.0.0.0.0.0.0.0.0.0.1) r.0.0.0.0.0.0.0.0.0.0.0.0.0.0.0.0.0.0.0.0.1) r.0.0.0.0.0.0.0.0.0.0.0.0.0.0.0.0.0.0.0.1) r.0.0.0.0.0.0.0.0.0.0.0.0.0.0.0.0.0.0.1) r.0.0.0.0.0.0.0.0.0.0.0.0.0.0.0.0.0.1) r.0.0.0.0.0.0.0.0.0.0.0.0.0.0.0.0.1) r.0.0.0.0.0.0.0.0.0.0.0.0.0.0.0.1) r.0.0.0.0.0.0.0.0.0.0.0.0.0.0.1) r.0.0.0.0.0.0.0.0.0.0.0.0.0.1) r.0.0.0.0.0.0.0.0.0.0.0.0.1) r.0.0.0.0.0.0.0.0.0.0.0.1) r.0.0.0.0.0.0.0.0.0.0.1) r.0.0.0.0.0.0.0.0.0.1) r.0.0.0.0.0.0.0.0.1) r.0.0.0.0.0.0.0.1) r.0.0.0.0.0.0.1) r.0.0.0.0.0.1) r.0.0.0.0.1) r.0.0.0.1) r.0.0.1 in
-    sym (written_none c.args.self c.args.t c.args.v h r.0.1 r.1)
+    let h : 20 ≤ c.args.t = past 19 (past 18 (past 17 (past 16 (past 15 (past 14 (past 13 (past 12 (past 11 (past 10 (past 9 (past 8 (past 7 (past 6 (past 5 (past 4 (past 3 (past 2 (past 1 (past 0 (omega arith) r.0.0.0.0.0.0.0.0.0.0.0.0.0.0.0.0.0.0.0.0.1) r.0.0.0.0.0.0.0.0.0.0.0.0.0.0.0.0.0.0.0.1) r.0.0.0.0.0.0.0.0.0.0.0.0.0.0.0.0.0.0.1) r.0.0.0.0.0.0.0.0.0.0.0.0.0.0.0.0.0.1) r.0.0.0.0.0.0.0.0.0.0.0.0.0.0.0.0.1) r.0.0.0.0.0.0.0.0.0.0.0.0.0.0.0.1) r.0.0.0.0.0.0.0.0.0.0.0.0.0.0.1) r.0.0.0.0.0.0.0.0.0.0.0.0.0.1) r.0.0.0.0.0.0.0.0.0.0.0.0.1) r.0.0.0.0.0.0.0.0.0.0.0.1) r.0.0.0.0.0.0.0.0.0.0.1) r.0.0.0.0.0.0.0.0.0.1) r.0.0.0.0.0.0.0.0.1) r.0.0.0.0.0.0.0.1) r.0.0.0.0.0.0.1) r.0.0.0.0.0.1) r.0.0.0.0.1) r.0.0.0.1) r.0.0.1) r.0.1 in
+    sym (written_none c.args.self c.args.t c.args.v h r.1)
