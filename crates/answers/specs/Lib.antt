@@ -1,2 +1,3 @@
 -- What a call leaves and answers.
 pub mod Answer
+pub mod Refusals

@@ -1,4 +1,5 @@
 -- What holds of every number below a bound.
+use Rattle.std.proofs.lemmas.Bool.{and_from}
 use Prim.Native.Nat.{ℕ, zero, suc, ◌+◌, ◌<◌, ◌≤◌}
 use mathlib.Core.Path.{◌≡◌, refl, sym, ◌∙◌, ap}
 use mathlib.Core.Bool.{Bool, true, false, cond, false≢true}
@@ -7,7 +8,7 @@ use native.Mathlib.Omega.{arith}
 use lib.Dec.{ltb}
 use borrow.Author.Tests.{ltb-true, ltb-false}
 use Rattle.bits.specs.Below.{all_below, count_below, first_below}
-use Rattle.bits.proofs.Sets.{both, and_l, and_r}
+use Rattle.bits.proofs.Sets.{and_l, and_r}
 
 -- a number below n + 1 is n or below n
 below_cases : {A : Type 0} (i n : ℕ) → i < suc n → (i ≡ n → A) → (i < n → A) → A
@@ -29,7 +30,7 @@ pub all_below_lem : (p : ℕ → Bool) (n : ℕ) → ((i : ℕ) → i < n → p 
 unfolding all_below
 all_below_lem p zero h = refl
 all_below_lem p (suc n) h =
-    both (all_below p n) (p n) (all_below_lem p n (λ i l. h i (omega arith))) (h n (omega arith))
+    and_from (all_below p n) (p n) (all_below_lem p n (λ i l. h i (omega arith))) (h n (omega arith))
 
 -- a number that is at least k and is not k
 pub past : (k : ℕ) {t : ℕ} → k ≤ t → (t ≡ k → ⊥) → suc k ≤ t

@@ -4,6 +4,7 @@ use mathlib.Core.Path.{◌≡◌, refl, sym, ◌∙◌, ap}
 use mathlib.Core.Bool.{Bool, true, false, not, xor, ◌&&◌, ◌||◌, false≢true}
 use native.Mathlib.Nat.{lt_of_le_of_lt}
 use native.Mathlib.Omega.{arith}
+use Rattle.std.proofs.lemmas.Bool.{and_from, or_left, or_right}
 use lib.Bits.{bit_and, bit_or, bit_xor, and_comm, and_le_l, and_le_r}
 use borrow.Author.Tests.{eq-eqb, ne_eqb, eqb-true, eqb-false, not-true}
 use Rattle.bits.specs.Bit.{digit, bit, mask, without}
@@ -12,9 +13,6 @@ use Rattle.bits.proofs.Laws.{bit-and, bit-or, bit-xor, bit-without, bit-zero, bi
 
 -- ---- tests that hold
 
-pub both : (a b : Bool) → a ≡ true → b ≡ true → (a && b) ≡ true
-both a b p q = rw (p, q)
-
 pub and_l : (a b : Bool) → (a && b) ≡ true → a ≡ true
 and_l true b h = refl
 and_l false b h = h
@@ -22,13 +20,6 @@ and_l false b h = h
 pub and_r : (a b : Bool) → (a && b) ≡ true → b ≡ true
 and_r true b h = h
 and_r false b h = absurd (false≢true h)
-
-pub or_l : (a b : Bool) → a ≡ true → (a || b) ≡ true
-or_l a b p = rw p
-
-pub or_r : (a b : Bool) → b ≡ true → (a || b) ≡ true
-or_r true b p = refl
-or_r false b p = p
 
 -- true on either side
 or_cases : {A : Type 0} (a b : Bool) → (a ≡ true → A) → (b ≡ true → A) → (a || b) ≡ true → A
@@ -96,10 +87,10 @@ pub and-within_r : (a c : ℕ) → Within (bit_and a c) c
 and-within_r a c = record { has = λ n p. and_r (bit a n) (bit c n) (sym (bit-and a c n) ∙ p) }
 
 pub or-within_l : (a c : ℕ) → Within a (bit_or a c)
-or-within_l a c = record { has = λ n p. bit-or a c n ∙ or_l (bit a n) (bit c n) p }
+or-within_l a c = record { has = λ n p. bit-or a c n ∙ or_left (bit a n) (bit c n) p }
 
 pub or-within_r : (a c : ℕ) → Within c (bit_or a c)
-or-within_r a c = record { has = λ n p. bit-or a c n ∙ or_r (bit a n) (bit c n) p }
+or-within_r a c = record { has = λ n p. bit-or a c n ∙ or_right (bit a n) (bit c n) p }
 
 pub without-within : (a c : ℕ) → Within (without a c) a
 without-within a c = record { has = λ n p. and_l (bit a n) (not (bit c n)) (sym (bit-without a c n) ∙ p) }
@@ -111,7 +102,7 @@ within-without {a} {b} c w =
       has = λ n p.
           let q : (bit a n && not (bit c n)) ≡ true = sym (bit-without a c n) ∙ p in
           bit-without b c n
-          ∙ both (bit b n) (not (bit c n)) (w.has n (and_l (bit a n) (not (bit c n)) q)) (and_r (bit a n) (not (bit c n)) q);
+          ∙ and_from (bit b n) (not (bit c n)) (w.has n (and_l (bit a n) (not (bit c n)) q)) (and_r (bit a n) (not (bit c n)) q);
     }
 
 pub within-mask : (n b : ℕ) → bit b n ≡ true → Within (mask n) b

@@ -31,10 +31,6 @@ pub implied : (a b : Bool) → (a ≡ true → b ≡ true) → implies a b ≡ t
 implied true b h = h refl
 implied false b h = refl
 
-pub neither : (a b : Bool) → (a || b) ≡ false → (a ≡ false) × (b ≡ false)
-neither true b h = absurd (false≢true (sym h))
-neither false b h = (refl, h)
-
 -- two tests that hold together
 pub same_test : (a b : Bool) → (a ≡ true → b ≡ true) → (b ≡ true → a ≡ true) → a ≡ b
 same_test true b f g = sym (f refl)

@@ -1,4 +1,5 @@
-// Flag words: one bit for each mailbox. Everything here is said for any bit number.
+// Flag words: one bit for each mailbox. Everything here is said for any bit number. That it is below 32 stays a clause: most are called with a
+// number written out, which a struct would only wrap.
 #![tactic(auto)]
 
 ghost use Rattle.std.specs.Prelude.{◌≡◌, ◌<◌, cond};

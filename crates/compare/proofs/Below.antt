@@ -4,6 +4,7 @@ use mathlib.Core.Path.{◌≡◌, refl, sym, ◌∙◌, ap, ap₂}
 use mathlib.Core.Bool.{Bool, true, false, ◌&&◌}
 use mathlib.Core.List.{List, [], ◌∷◌, ◌++◌, append_assoc, append-nil}
 use mathlib.Core.Logic.{◌≢◌}
+use native.Mathlib.Nat.{add-zero}
 use native.Mathlib.Numerals.{add-one}
 use native.Mathlib.Omega.{arith}
 use lib.Dec.{eqb, leb}
@@ -13,7 +14,7 @@ use Rattle.bits.proofs.Sets.{and_l, and_r}
 use Rattle.texts.proofs.Parts.{parts_none, parts_one, parts_more, parts_both, parts_length}
 use Rattle.compare.specs.declared.Entry.{Entry}
 use Rattle.compare.specs.Compare.{image_words, image_word, difference, differences_below, differences, entry_bytes, list_bytes}
-use Rattle.compare.specs.Terms.{same, same_two, same_four, one_bytes, two_bytes, four_bytes}
+use Rattle.compare.specs.Terms.{same, same_two, same_four, one_bytes, bytes_from}
 
 -- ---- one word
 
@@ -113,7 +114,11 @@ pub list_both : (es fs : List Entry) → list_bytes (es ++ fs) ≡ list_bytes es
 unfolding list_bytes
 list_both = parts_both entry_bytes
 
--- two words more, or four
+-- 12 an entry
+pub length_list : (es : List Entry) → length (list_bytes es) ≡ 12 * length es
+unfolding list_bytes
+length_list = parts_length entry_bytes 12 (λ e. refl)
+
 module _ (a b : List ℕ) where
   abbrev text : ℕ → List ℕ
   text k = list_bytes (differences_below a b k)
@@ -121,23 +126,23 @@ module _ (a b : List ℕ) where
   one_more : (k : ℕ) → text (k + 1) ≡ text k ++ one_bytes a b k
   one_more k = ap list_bytes (below_next a b k) ∙ list_both (differences_below a b k) (difference a b k)
 
-  pub two_more : (k : ℕ) → text (k + 2) ≡ text k ++ two_bytes a b k
-  two_more k =
-      let e : k + 2 ≡ k + 1 + 1 = omega arith in
+  -- n words more
+  pub more : (k n : ℕ) → text (k + n) ≡ text k ++ bytes_from a b k n
+  unfolding bytes_from
+  more k zero = ap text (add-zero k) ∙ sym (append-nil (text k))
+  more k (suc n) =
+      let e : k + suc n ≡ k + n + 1 = omega arith in
       ap text e
-      ∙ one_more (k + 1)
-      ∙ ap (λ (l : List ℕ). l ++ one_bytes a b (k + 1)) (one_more k)
-      ∙ append_assoc (text k) (one_bytes a b k) (one_bytes a b (k + 1))
+      ∙ one_more (k + n)
+      ∙ ap (λ (l : List ℕ). l ++ one_bytes a b (k + n)) (more k n)
+      ∙ append_assoc (text k) (bytes_from a b k n) (one_bytes a b (k + n))
 
-  pub four_more : (k : ℕ) → text (k + 4) ≡ text k ++ four_bytes a b k
-  four_more k =
-      let e : k + 4 ≡ k + 2 + 2 = omega arith in
-      ap text e
-      ∙ two_more (k + 2)
-      ∙ ap (λ (l : List ℕ). l ++ two_bytes a b (k + 2)) (two_more k)
-      ∙ append_assoc (text k) (two_bytes a b k) (two_bytes a b (k + 2))
+  -- the bytes of one word more
+  pub from_next : (k n : ℕ) → bytes_from a b k (n + 1) ≡ bytes_from a b k n ++ one_bytes a b (k + n)
+  unfolding bytes_from
+  from_next k n = ap (bytes_from a b k) (add-one n)
 
--- 12 an entry
-pub length_list : (es : List Entry) → length (list_bytes es) ≡ 12 * length es
-unfolding list_bytes
-length_list = parts_length entry_bytes 12 (λ e. refl)
+  -- those of the first words are not longer
+  pub from_most : (k m n : ℕ) → m ≤ n → length (bytes_from a b k m) ≤ length (bytes_from a b k n)
+  from_most k m n h =
+      omega (arith, ap length (more k m) ∙ length-append (text k) (bytes_from a b k m), ap length (more k n) ∙ length-append (text k) (bytes_from a b k n), length_list (differences_below a b (k + m)), length_list (differences_below a b (k + n)), below_most a b (k + m) (k + n) (omega arith))

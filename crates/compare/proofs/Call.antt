@@ -6,24 +6,14 @@ use mathlib.Core.List.{List}
 use mathlib.Core.Logic.{◌⊎◌, ⊎_elim, ◌↔◌}
 use native.Mathlib.Omega.{arith}
 use lib.ListN.{length}
-use Rattle.bits.proofs.Sets.{and_l, and_r}
 use Rattle.texts.specs.Text.{Put}
-use Rattle.registers.specs.Block.{image_bytes}
-use Rattle.good.specs.Good.{good_image}
-use Rattle.good.proofs.Image.{good_length}
-use Rattle.answers.specs.Answer.{no_mailbox, packed, Refuses, Fitted}
+use Rattle.answers.specs.Answer.{no_mailbox, packed, Refuses}
 use Rattle.answers.proofs.Lists.{same_end, fitted_unique}
 use Rattle.compare.specs.Compare.{differences, list_bytes, Compares}
 use Rattle.compare.specs.Terms.{both_good}
 use Rattle.compare.proofs.Below.{length_list}
 
 module _ (a b : List ℕ) where
-  pub long_first : both_good a b ≡ true → length a ≡ image_bytes
-  long_first h = good_length a (and_l (good_image a) (good_image b) h)
-
-  pub long_second : both_good a b ≡ true → length b ≡ image_bytes
-  long_second h = good_length b (and_r (good_image a) (good_image b) h)
-
   -- how long the bytes of a list are
   pub list_long : length (list_bytes (differences a b)) ≡ 12 * length (differences a b)
   list_long = length_list (differences a b)
@@ -38,9 +28,6 @@ module _ (a b : List ℕ) where
   module _ (o x : List ℕ) (r : ℕ) where
     pub call_bad : both_good a b ≡ false → Refuses 1 o x r → Compares (both_good a b ≡ true) a b o x r
     call_bad h t = record { bad = λ z. t; fitted = λ g. absurd (false≢true (sym h ∙ g)) }
-
-    pub call_good : both_good a b ≡ true → Fitted (length (differences a b)) (list_bytes (differences a b)) o x r → Compares (both_good a b ≡ true) a b o x r
-    call_good h t = record { bad = λ n. absurd (n h); fitted = λ g. t }
 
   -- the same promise, where good is said in other words
   pub call_as : (good better : Type 0) → good ↔ better → (o x : List ℕ) (r : ℕ) → Compares good a b o x r → Compares better a b o x r

@@ -1,6 +1,6 @@
 -- Comparing two images: terms for the contracts of the code, which judges both images and goes over four words at once. The rule itself is
 -- in Compare.
-use Rattle.std.specs.Prelude.{ℕ, ◌+◌, Bool, ◌&&◌, List, ◌++◌, eqb}
+use Rattle.std.specs.Prelude.{ℕ, zero, suc, ◌+◌, Bool, ◌&&◌, List, [], ◌++◌, eqb}
 use Rattle.good.specs.Good.{good_image}
 use Rattle.compare.specs.Compare.{image_word, difference, list_bytes}
 
@@ -18,12 +18,11 @@ same_two a b k = same a b k && same a b (k + 1)
 abbrev pub same_four : List ℕ → List ℕ → ℕ → Bool
 same_four a b k = same_two a b k && same_two a b (k + 2)
 
--- The bytes of what is listed of word k, and of two words, or four, from there on.
+-- The bytes of what is listed of word k.
 abbrev pub one_bytes : List ℕ → List ℕ → ℕ → List ℕ
 one_bytes a b k = list_bytes (difference a b k)
 
-abbrev pub two_bytes : List ℕ → List ℕ → ℕ → List ℕ
-two_bytes a b k = one_bytes a b k ++ one_bytes a b (k + 1)
-
-abbrev pub four_bytes : List ℕ → List ℕ → ℕ → List ℕ
-four_bytes a b k = two_bytes a b k ++ two_bytes a b (k + 2)
+-- Comparing two images: the bytes of what is listed of n words in a row, the first of them word k.
+unfoldable pub bytes_from : List ℕ → List ℕ → ℕ → ℕ → List ℕ
+bytes_from a b k zero = []
+bytes_from a b k (suc n) = bytes_from a b k n ++ one_bytes a b (k + n)

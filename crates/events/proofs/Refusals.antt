@@ -1,4 +1,5 @@
 -- Refusals 2, 3 and 4: which one an event gets, exactly, and that an event that gets none is a real event.
+use Rattle.std.proofs.lemmas.Bool.{or_parts}
 use Prim.Native.Nat.{ℕ, ◌<◌, ◌≤◌}
 use mathlib.Core.Path.{◌≡◌, refl, sym, ◌∙◌, ap, subst}
 use mathlib.Core.Bool.{Bool, true, false, not, ◌&&◌, false≢true}
@@ -9,7 +10,6 @@ use native.Mathlib.Omega.{arith}
 use lib.Dec.{eqb}
 use lib.ListN.{length, get_or-eq_default}
 use borrow.Author.Tests.{eqb-true, ne_eqb, not-false}
-use Rattle.bits.proofs.Tests.{neither}
 use Rattle.bits.specs.Below.{all_below}
 use Rattle.bits.proofs.Below.{each_below}
 use Rattle.events.specs.declared.Event.{Event}
@@ -53,11 +53,11 @@ module _ (e : List ℕ) (u : unknown e ≡ false) where
   pub known-length : length e ≡ event_bytes
   known-length =
       eqb-true (length e) event_bytes
-      (not-false _ (neither (not (eqb (length e) event_bytes)) (not (known_as (operation e) e)) u).0)
+      (not-false _ (or_parts (not (eqb (length e) event_bytes)) (not (known_as (operation e) e)) u).0)
 
   pub known-operation : known_as (operation e) e ≡ true
   known-operation =
-      not-false _ (neither (not (eqb (length e) event_bytes)) (not (known_as (operation e) e)) u).1
+      not-false _ (or_parts (not (eqb (length e) event_bytes)) (not (known_as (operation e) e)) u).1
 
 -- ---- a real event
 

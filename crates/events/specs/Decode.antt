@@ -1,6 +1,8 @@
 -- From 16 bytes to an event, or to refusal 2, 3 or 4: for each operation a row in four tables.
-use Rattle.std.specs.Prelude.{ℕ, Bool, true, false, cond, not, ◌&&◌, ◌||◌, List, [], ◌∷◌, eqb, ltb, leb, get_or, length}
+use Rattle.std.specs.Prelude.{ℕ, Bool, true, false, cond, not, ◌&&◌, ◌||◌, List, [], ◌∷◌, eqb, ltb, leb, get_or, length, Result, Ok, Err}
 use Rattle.bits.specs.Tests.{top_down, gap_down}
+use Rattle.answers.specs.declared.Refusal.{Refusal}
+use Rattle.answers.specs.Refusals.{number_of}
 use Rattle.mailboxes.specs.Mailbox.{word_layout}
 use Rattle.events.specs.declared.Event.{Event}
 use Rattle.events.specs.declared.Event.TheVariants.{Refused, Register, Mailbox, Heard, Start, Outcome, ReceiveError, Recessive, Tick, Mode, Options, Reset}
@@ -127,6 +129,11 @@ unfoldable pub decoded_as : ℕ → Bool → Bool → List ℕ → Event
 decoded_as op asleep ecan e =
     cond (not (known_as op e)) (Refused 2)
     (cond (wakeful_as op && asleep) (Refused 3) (cond (not (quiet_as op e && allowed_as op ecan e)) (Refused 4) (event_as op e)))
+
+-- The events, refusals 2 to 4: the event where there is one, else the case of a refused event, with the number of its refusal.
+abbrev pub or_refused : Result Event Refusal → Event
+or_refused (Ok v) = v
+or_refused (Err why) = Refused (number_of why)
 
 -- Document 02, d): an event that has to be a frame is refused with 2 where it is not 16 bytes or has another operation than 2, else with 4
 -- as in a step; 0 says that it is not refused.

@@ -1,14 +1,16 @@
 // Frame events.
-ghost use Rattle.std.specs.Prelude.{◌≡◌, false, ◌&&◌, length};
-ghost use Rattle.events.specs.Parts.{event_bytes, frame_of, frame_allowed};
-ghost use Rattle.events.specs.Decode.{quiet_as, allowed_as, decoded_as, frame_refusal};
+ghost use Rattle.std.specs.Prelude.{◌≡◌, false, ◌&&◌, MatchResult};
+ghost use Rattle.answers.specs.Refusals.{number_of};
+ghost use Rattle.events.specs.Parts.{frame_of, frame_allowed};
+ghost use Rattle.events.specs.Decode.{quiet_as, allowed_as, decoded_as, frame_refusal, or_refused};
 
 use crate::parts::{payload, quiet, target, value};
-use crate::{Event, Frame};
+use crate::{Event, EventBytes, Frame, demand};
+use answers::Refusal;
 
 // The frame of an event, read without a test.
-pub fn frame_of(e: &[u8]) -> Frame
-    requires { length e.now ≡ event_bytes }
+#[tactic(auto, unfolding(crate::specs::Parts::frame_of))]
+pub fn frame_of(e: &EventBytes) -> Frame
     ensures { result ≡ frame_of e.now }
 {
     let v = value(e);
@@ -21,8 +23,8 @@ pub fn frame_of(e: &[u8]) -> Frame
     }
 }
 
-fn is_frame_allowed(e: &[u8]) -> bool
-    requires { length e.now ≡ event_bytes }
+#[tactic(auto, unfolding(crate::specs::Parts::frame_allowed))]
+fn is_frame_allowed(e: &EventBytes) -> bool
     ensures { result ≡ frame_allowed e.now }
 {
     let v = value(e);
@@ -32,8 +34,7 @@ fn is_frame_allowed(e: &[u8]) -> bool
 }
 
 // Is what it does not use zero, and what it uses allowed?
-fn is_frame_taken(e: &[u8]) -> bool
-    requires { length e.now ≡ event_bytes }
+fn is_frame_taken(e: &EventBytes) -> bool
     ensures { result ≡ (quiet_as 2 e.now && allowed_as 2 false e.now) }
 {
     let n = mailboxes::data_bytes(bits::test(value(e), 30), target(e));
@@ -41,26 +42,22 @@ fn is_frame_taken(e: &[u8]) -> bool
 }
 
 // Operation 2.
-pub fn frame_event(asleep: bool, e: &[u8]) -> Event
-    requires { length e.now ≡ event_bytes }
-    ensures { result ≡ decoded_as 2 asleep false e.now }
+#[tactic(auto, unfolding(crate::specs::Decode::decoded_as))]
+pub fn frame_event(e: &EventBytes) -> Result<Event, Refusal>
+    ensures { or_refused result ≡ decoded_as 2 false false e.now }
 {
-    if is_frame_taken(e) {
-        Event::Heard { frame: frame_of(e) }
-    } else {
-        Event::Refused { number: 4 }
-    }
+    demand(is_frame_taken(e), Refusal::NotAllowed)?;
+    Ok(Event::Heard { frame: frame_of(e) })
 }
 
-// The refusal of any bytes that have to be a frame event, 0 where they are one.
-pub fn frame_refusal(e: &[u8]) -> u32
-    ensures { result ≡ frame_refusal e.now }
+// The frame of any bytes that have to be a frame event, or why they are none.
+#[tactic(auto, unfolding(crate::specs::Decode::frame_refusal))]
+pub fn frame_in(e: &[u8]) -> Result<Frame, Refusal>
+    ensures { MatchResult result (λ f. (frame_refusal e.now ≡ 0) × (f ≡ frame_of e.now))
+        (λ why. number_of why ≡ frame_refusal e.now) }
 {
-    if e.len() != 16 {
-        return 2;
-    }
-    if words::byte_at(e, 0) != 2 {
-        return 2;
-    }
-    if is_frame_taken(e) { 0 } else { 4 }
+    let e: &EventBytes = e.as_array().ok_or(Refusal::Unknown)?;
+    demand(words::byte_at(e, 0) == 2, Refusal::Unknown)?;
+    demand(is_frame_taken(e), Refusal::NotAllowed)?;
+    Ok(frame_of(e))
 }

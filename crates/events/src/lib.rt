@@ -5,15 +5,21 @@ mod frames;
 mod parts;
 mod writes;
 
-ghost use Rattle.std.specs.Prelude.{◌≡◌, false, cond, length};
-ghost use Rattle.events.specs.Parts.{event_bytes, quiet as quiet_of};
-ghost use Rattle.events.specs.Decode.{decoded_as, decoded};
+ghost use Rattle.std.specs.Prelude.{◌≡◌, true, false, cond, MatchResult};
+ghost use Rattle.events.specs.Parts.{quiet as quiet_of};
+ghost use Rattle.events.specs.Decode.{decoded_as, decoded, or_refused};
 
 use crate::frames::frame_event;
 use crate::parts::{quiet, target, value};
 use crate::writes::{mailbox_event, options_event, register_event};
-pub use frames::{frame_of, frame_refusal};
+use answers::Refusal;
+pub use frames::{frame_in, frame_of};
 use mailboxes::Identifier;
+
+pub const EVENT_BYTES: usize = 16;
+
+// The bytes of an event.
+pub type EventBytes = [u8; EVENT_BYTES];
 
 // One frame, in numbers: its data bytes as one of 64 bits, the first lowest.
 #[derive(Clone, Copy)]
@@ -27,7 +33,9 @@ pub struct Frame {
 
 #[derive(Clone, Copy)]
 pub enum Event {
+    // stays: document 01 has refusals as a case of the event, and `remaining_refusal` answers for any number
     Refused { number: u32 },
+    // stays: targets, kinds and values as numbers, as document 01 lists them and the definitions of the crates above take them
     Register { target: u32, value: u32 },
     Mailbox { target: u32, word: u32, value: u32 },
     Heard { frame: Frame },
@@ -41,81 +49,87 @@ pub enum Event {
     Reset,
 }
 
-// The event, or refusal 4 where it is not allowed.
-fn judged(allowed: bool, event: Event) -> Event
-    ensures { result ≡ cond allowed event (Event.Refused 4) }
+// One of the tests that an event has to pass, and the refusal where it does not.
+fn demand(holds: bool, why: Refusal) -> Result<(), Refusal>
+    ensures { MatchResult result (λ _. holds ≡ true) (λ e. (holds ≡ false) × (e ≡ why)) }
 {
-    if allowed {
-        event
-    } else {
-        Event::Refused { number: 4 }
-    }
+    if holds { Ok(()) } else { Err(why) }
 }
 
 // Operation 4.
-fn outcome_event(asleep: bool, e: &[u8]) -> Event
-    requires { length e.now ≡ event_bytes }
-    ensures { result ≡ decoded_as 4 asleep false e.now }
+#[tactic(auto, unfolding(crate::specs::Decode::decoded_as))]
+fn outcome_event(e: &EventBytes) -> Result<Event, Refusal>
+    ensures { or_refused result ≡ decoded_as 4 false false e.now }
 {
     let kind = target(e);
-    if !(kind <= 3) {
-        return Event::Refused { number: 2 };
-    }
-    judged(quiet(e, true, false, false, 0), Event::Outcome { kind })
+    demand(kind <= 3, Refusal::Unknown)?;
+    demand(quiet(e, true, false, false, 0), Refusal::NotAllowed)?;
+    Ok(Event::Outcome { kind })
 }
 
 // Operation 5.
-fn receive_error_event(asleep: bool, e: &[u8]) -> Event
-    requires { length e.now ≡ event_bytes }
-    ensures { result ≡ decoded_as 5 asleep false e.now }
+#[tactic(auto, unfolding(crate::specs::Decode::decoded_as))]
+fn receive_error_event(e: &EventBytes) -> Result<Event, Refusal>
+    ensures { or_refused result ≡ decoded_as 5 false false e.now }
 {
     let v = value(e);
-    judged(
+    demand(
         quiet(e, false, false, true, 0) & ((v == 1) | (v == 8)),
-        Event::ReceiveError { value: v },
-    )
+        Refusal::NotAllowed,
+    )?;
+    Ok(Event::ReceiveError { value: v })
 }
 
 // Operation 8.
-fn mode_event(asleep: bool, e: &[u8]) -> Event
-    requires { length e.now ≡ event_bytes }
-    ensures { result ≡ decoded_as 8 asleep false e.now }
+#[tactic(auto, unfolding(crate::specs::Decode::decoded_as))]
+fn mode_event(e: &EventBytes) -> Result<Event, Refusal>
+    ensures { or_refused result ≡ decoded_as 8 false false e.now }
 {
     let v = value(e);
-    judged(
+    demand(
         quiet(e, false, false, true, 0) & (v <= 3),
-        Event::Mode { value: v },
-    )
+        Refusal::NotAllowed,
+    )?;
+    Ok(Event::Mode { value: v })
 }
 
 // An operation that uses no byte but its own.
-fn plain_event(e: &[u8], event: Event) -> Event
-    requires { length e.now ≡ event_bytes }
-    ensures { result ≡ cond (quiet_of e.now false false false 0) event (Event.Refused 4) }
+fn plain_event(e: &EventBytes, event: Event) -> Result<Event, Refusal>
+    ensures { or_refused result ≡ cond (quiet_of e.now false false false 0) event (Event.Refused 4) }
 {
-    judged(quiet(e, false, false, false, 0), event)
+    demand(quiet(e, false, false, false, 0), Refusal::NotAllowed)?;
+    Ok(event)
+}
+
+// The event of any bytes of any length, or why they are refused.
+#[tactic(auto, unfolding(crate::specs::Decode::decoded, crate::specs::Decode::decoded_as))]
+fn event_in(asleep: bool, ecan: bool, e: &[u8]) -> Result<Event, Refusal>
+    ensures { or_refused result ≡ decoded asleep ecan e.now }
+{
+    let e: &EventBytes = e.as_array().ok_or(Refusal::Unknown)?;
+    // stays: numbers, since each stands here once, where the operation gets its case
+    let op = words::byte_at(e, 0);
+    match op {
+        0 => register_event(asleep, ecan, e),
+        1 => mailbox_event(asleep, e),
+        2 => frame_event(e),
+        3 => plain_event(e, Event::Start),
+        4 => outcome_event(e),
+        5 => receive_error_event(e),
+        6 => plain_event(e, Event::Recessive),
+        7 => plain_event(e, Event::Tick),
+        8 => mode_event(e),
+        9 => options_event(asleep, e),
+        10 => plain_event(e, Event::Reset),
+        _ => Err(Refusal::Unknown),
+    }
 }
 
 // Any bytes of any length, given whether the unit sleeps and whether it is an eCAN.
 pub fn decode(asleep: bool, ecan: bool, e: &[u8]) -> Event
     ensures { result ≡ decoded asleep ecan e.now }
 {
-    if e.len() != 16 {
-        return Event::Refused { number: 2 };
-    }
-    let op = words::byte_at(e, 0);
-    match op {
-        0 => register_event(asleep, ecan, e),
-        1 => mailbox_event(asleep, e),
-        2 => frame_event(asleep, e),
-        3 => plain_event(e, Event::Start),
-        4 => outcome_event(asleep, e),
-        5 => receive_error_event(asleep, e),
-        6 => plain_event(e, Event::Recessive),
-        7 => plain_event(e, Event::Tick),
-        8 => mode_event(asleep, e),
-        9 => options_event(asleep, e),
-        10 => plain_event(e, Event::Reset),
-        _ => Event::Refused { number: 2 },
-    }
+    event_in(asleep, ecan, e).unwrap_or_else(|why| Event::Refused {
+        number: why.number(),
+    })
 }

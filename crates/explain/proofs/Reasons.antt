@@ -1,4 +1,5 @@
 -- The reason of one mailbox: what each says, and that the code's tests are the rule's.
+use Rattle.std.proofs.lemmas.Bool.{or_parts}
 use Prim.Native.Nat.{ℕ, zero, suc, ◌^◌, ◌<◌, ◌≤◌}
 use mathlib.Core.Path.{◌≡◌, refl, sym, ◌∙◌, ap}
 use mathlib.Core.Bool.{Bool, true, false, cond, not, xor, ◌&&◌, ◌||◌, and-false, false≢true}
@@ -35,10 +36,6 @@ is_passed why = number why is 7
 
 abbrev agrees : Reason → Bool
 agrees why = is_matched why || is_passed why
-
-neither : (a b : Bool) → (a || b) ≡ false → (a ≡ false) × (b ≡ false)
-neither false b h = (refl, h)
-neither true b h = absurd (false≢true (sym h))
 
 module _ (q : Bool) (p : ℕ → Bool) where
   -- none differs
@@ -214,7 +211,7 @@ module _ (s : List ℕ) (f : Frame) (n : ℕ) where
         at : (t : Bool) → eqb d 0 ≡ t → (u : Bool) → q ≡ u → (is_matched why ≡ (t && not u)) × (is_passed why ≡ (t && u))
         at true e true g = let z = by_none q d (eqb-true d 0 e) ∙ ap match_reason g in (ap is_matched z, ap is_passed z)
         at true e false g = let z = by_none q d (eqb-true d 0 e) ∙ ap match_reason g in (ap is_matched z, ap is_passed z)
-        at false e u g = neither (is_matched why) (is_passed why) (where_some e)
+        at false e u g = or_parts (is_matched why) (is_passed why) (where_some e)
 
   -- of any mailbox, by the tests of the search
   by_tests : (g : Bool) → (t u : Bool)

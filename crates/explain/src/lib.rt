@@ -3,16 +3,17 @@
 
 ghost use Rattle.std.specs.Prelude.{◌≡◌, false, ◌+◌, ◌<◌, ◌≤◌, length};
 ghost use Rattle.bits.specs.Bit.{bit};
-ghost use Rattle.registers.specs.Block.{image_bytes, block_of};
+ghost use Rattle.registers.specs.Block.{block_of};
 ghost use Rattle.registers.specs.Status.{bus_off};
 ghost use Rattle.texts.specs.Text.{Put};
 ghost use Rattle.answers.specs.Answer.{Fitted};
 ghost use Rattle.filter.specs.Filter.{seat as seat_of, mask_for};
-ghost use Rattle.explain.specs.Explain.{number as number_of, bit_number as bit_number_of, match_reason, compared_reason, lines, unheard, line_bytes, list_bytes, ExplainCall};
+ghost use Rattle.explain.specs.Explain.{number as number_of, bit_number as bit_number_of, is_matched as ends_lines, match_reason, compared_reason, lines, unheard, line_bytes, list_bytes, ExplainCall};
 ghost use Rattle.explain.specs.Terms.{reason_by, explained_by};
 
+use answers::{NO_MAILBOX, Refusal};
 use events::Frame;
-use registers::Block;
+use registers::{Block, Image, Loaded};
 
 // Room for any lines: a mailbox has one at most.
 const LONGEST: usize = 256;
@@ -36,40 +37,48 @@ pub struct Line {
     pub reason: Reason,
 }
 
-fn number(why: Reason) -> u8
-    ensures { result ≡ number_of why }
-{
-    match why {
-        Reason::Disabled => 1,
-        Reason::Transmits => 2,
-        Reason::IdeDiffers => 3,
-        Reason::BitDiffers { bit } => 4,
-        Reason::Matched => 5,
-        Reason::NotHeard { state } => 6,
-        Reason::Protected => 7,
+impl Reason {
+    // Its number in a line. stays a method, and no `From`: there are two numbers of a reason, both of a byte, and definitions name both.
+    fn number(self) -> u8
+        ensures { result ≡ number_of self }
+    {
+        match self {
+            Reason::Disabled => 1,
+            Reason::Transmits => 2,
+            Reason::IdeDiffers => 3,
+            Reason::BitDiffers { .. } => 4,
+            Reason::Matched => 5,
+            Reason::NotHeard { .. } => 6,
+            Reason::Protected => 7,
+        }
     }
-}
 
-// The bit number of a line, or the state in its place.
-fn bit_number(why: Reason) -> u8
-    ensures { result ≡ bit_number_of why }
-{
-    match why {
-        Reason::Disabled => 0,
-        Reason::Transmits => 0,
-        Reason::IdeDiffers => 0,
-        Reason::BitDiffers { bit } => bit,
-        Reason::Matched => 0,
-        Reason::NotHeard { state } => state,
-        Reason::Protected => 0,
+    // The bit number of its line, or the state in its place.
+    fn bit_number(self) -> u8
+        ensures { result ≡ bit_number_of self }
+    {
+        match self {
+            Reason::BitDiffers { bit } => bit,
+            Reason::NotHeard { state } => state,
+            _ => 0,
+        }
+    }
+
+    // Do the lines end with it?
+    fn is_matched(self) -> bool
+        ensures { result ≡ ends_lines self }
+    {
+        matches!(self, Reason::Matched)
     }
 }
 
 // The mask of mailbox n.
-fn mask_of(s: &[u8], b: Block, n: u32) -> u32
-    requires { (length s.now ≡ image_bytes) × (n < 32) }
-    ensures { result ≡ mask_for s.now b n }
+fn mask_of(m: Loaded, n: u32) -> u32
+    requires { n < 32 }
+    ensures { result ≡ mask_for m.entry.image.now m.entry.block n }
 {
+    let s = m.image;
+    let b = m.block;
     filter::mask_at(s, b, bits::choose(n == 31, b.lam, b.gam), n)
 }
 
@@ -100,17 +109,21 @@ fn judge(differing: u32, passes: bool) -> Reason
 }
 
 // The first reason that holds of mailbox n.
-fn reason_at(s: &[u8], b: Block, f: Frame, n: u32) -> Reason
-    requires { (length s.now ≡ image_bytes) × (b ≡ block_of s.now) × (f.id.0 < 536870912) × (n < 32) }
-    ensures { result ≡ reason_by s.now f n }
+// stays in the contracts from here on: that the identifier has 29 bits. Its type would be events::Frame, which that crate's frame_of and filter
+// build and read without it.
+fn reason_at(m: Loaded, f: Frame, n: u32) -> Reason
+    requires { (f.id.0 < 536870912) × (n < 32) }
+    ensures { result ≡ reason_by m.entry.image.now f n }
 {
+    let s = m.image;
+    let b = m.block;
     if !bits::test(b.mc, n) {
         return Reason::Disabled;
     }
     if !(f.rtr | bits::test(b.md, n)) {
         return Reason::Transmits;
     }
-    let differing = filter::differing(mask_of(s, b, n), f, mailboxes::word(s, n as usize, 0));
+    let differing = filter::differing(mask_of(m, n), f, mailboxes::word(s, n as usize, 0));
     judge(differing, bits::test(filter::guarded(b), n))
 }
 
@@ -120,21 +133,20 @@ fn put_line(list: &mut [u8], at: usize, l: Line) -> usize
     ensures { Put list.old at (line_bytes l) list.new result }
 {
     let why = l.reason;
-    let first = l.mailbox as u32 + 256 * (number(why) as u32) + 65536 * (bit_number(why) as u32);
+    let first = l.mailbox as u32 + 256 * (why.number() as u32) + 65536 * (why.bit_number() as u32);
     let rest = texts::put_word(list, at, first);
     texts::put_word(list, rest, 0)
 }
 
 // The lines of a heard frame, place by place, at the front of bytes that have room for any: up to the first mailbox that matched.
-fn put_lines(s: &[u8], b: Block, f: Frame, list: &mut [u8]) -> usize
-    requires { (length s.now ≡ image_bytes) × (b ≡ block_of s.now) × (f.id.0 < 536870912) × (256 ≤ length list.old) }
-    ensures { Put list.old 0 (list_bytes (lines (seat_of (block_of s.now)) (reason_by s.now f))) list.new result }
+fn put_lines(m: Loaded, f: Frame, list: &mut [u8]) -> usize
+    requires { (f.id.0 < 536870912) × (256 ≤ length list.old) }
+    ensures { Put list.old 0 (list_bytes (lines (seat_of (block_of m.entry.image.now)) (reason_by m.entry.image.now f))) list.new result }
 {
     let mut at: usize = 0;
-    let mut k: u32 = 0;
-    while k < 32 {
-        let n = filter::seat(b, k);
-        let reason = reason_at(s, b, f, n);
+    for k in 0..32 {
+        let n = filter::seat(m.block, k);
+        let reason = reason_at(m, f, n);
         at = put_line(
             list,
             at,
@@ -143,10 +155,9 @@ fn put_lines(s: &[u8], b: Block, f: Frame, list: &mut [u8]) -> usize
                 reason,
             },
         );
-        if number(reason) == 5 {
+        if reason.is_matched() {
             return at;
         }
-        k += 1;
     }
     at
 }
@@ -162,57 +173,59 @@ fn put_unheard(b: Block, list: &mut [u8]) -> usize
         list,
         0,
         Line {
-            mailbox: 32,
+            mailbox: NO_MAILBOX as u8,
             reason,
         },
     )
 }
 
 // The lines of a frame, heard or not.
-fn put_explanation(s: &[u8], f: Frame, list: &mut [u8]) -> usize
-    requires { (length s.now ≡ image_bytes) × ((block_of s.now).mode ≤ 3) × (f.id.0 < 536870912) × (256 ≤ length list.old) }
+// stays: the mode of a good image, in three contracts; `Loaded` is made of any image
+fn put_explanation(s: &Image, f: Frame, list: &mut [u8]) -> usize
+    requires { ((block_of s.now).mode ≤ 3) × (f.id.0 < 536870912) × (256 ≤ length list.old) }
     ensures { Put list.old 0 (list_bytes (explained_by s.now f)) list.new result }
 {
-    let b = Block::load(s);
-    if b.is_on_bus() {
-        put_lines(s, b, f, list)
+    let m = Loaded::load(s);
+    if m.block.is_on_bus() {
+        put_lines(m, f, list)
     } else {
-        put_unheard(b, list)
+        put_unheard(m.block, list)
     }
 }
 
 // The same, where they may not fit.
-fn tell_if_they_fit(s: &[u8], f: Frame, list: &mut [u8]) -> u64
-    requires { (length s.now ≡ image_bytes) × ((block_of s.now).mode ≤ 3) × (f.id.0 < 536870912) }
+// stays beside compare's tell_if_it_fits: see there.
+fn tell_if_they_fit(s: &Image, f: Frame, list: &mut [u8]) -> u64
+    requires { ((block_of s.now).mode ≤ 3) × (f.id.0 < 536870912) }
     ensures { Fitted (length (explained_by s.now f)) (list_bytes (explained_by s.now f)) list.old list.new result }
 {
-    let mut apart = [0u8; 256];
+    // stays: fixed bytes, and the end of the lines in them: no heap
+    let mut apart = [0u8; LONGEST];
     let end = put_explanation(s, f, &mut apart);
     texts::tell(list, &apart[..end], (end / 8) as u32)
 }
 
 // The same, in any bytes. Those that have room for any lines need none apart.
-fn tell(s: &[u8], f: Frame, list: &mut [u8]) -> u64
-    requires { (length s.now ≡ image_bytes) × ((block_of s.now).mode ≤ 3) × (f.id.0 < 536870912) }
+fn tell(s: &Image, f: Frame, list: &mut [u8]) -> u64
+    requires { ((block_of s.now).mode ≤ 3) × (f.id.0 < 536870912) }
     ensures { Fitted (length (explained_by s.now f)) (list_bytes (explained_by s.now f)) list.old list.new result }
 {
     if list.len() < LONGEST {
         return tell_if_they_fit(s, f, list);
     }
     let end = put_explanation(s, f, list);
-    answers::pack(0, 32, (end / 8) as u32)
+    answers::pack(0, NO_MAILBOX, (end / 8) as u32)
 }
 
 // Any bytes: the lines of the frame, or a refusal that writes nothing.
 pub fn explain(image: &[u8], event: &[u8], list: &mut [u8]) -> u64
     ensures { ExplainCall image.now event.now list.old list.new result }
 {
-    if !good::good_image(image) {
-        return answers::pack(1, 32, 0);
+    let Some(image) = good::as_good_image(image) else {
+        return answers::refuse(Refusal::NoModel);
+    };
+    match events::frame_in(event) {
+        Ok(f) => tell(image, f, list),
+        Err(why) => answers::refuse(why),
     }
-    let refusal = events::frame_refusal(event);
-    if refusal != 0 {
-        return answers::pack(refusal, 32, 0);
-    }
-    tell(image, events::frame_of(event), list)
 }

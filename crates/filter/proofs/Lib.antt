@@ -3,6 +3,7 @@ pub mod Matching
 pub mod Rest
 pub mod Search
 pub mod Turning
+pub mod Halving
 pub mod Passed
 pub mod Walk
 pub mod Ways

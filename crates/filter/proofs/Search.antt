@@ -1,4 +1,5 @@
 -- The search finds the first mailbox that is compared and matches, and counts those that it compared.
+use Rattle.std.proofs.lemmas.Bool.{and_from}
 use Prim.Native.Nat.{ℕ, suc, ◌-◌, ◌<◌, ◌≤◌}
 use mathlib.Core.Path.{◌≡◌, refl, sym, ◌∙◌, ap}
 use mathlib.Core.Bool.{Bool, true, false, cond, not, ◌&&◌, ◌||◌, and-true, and-false}
@@ -10,7 +11,7 @@ use borrow.Author.Tests.{ltb-true, ltb-false, lt-ltb, eq-eqb, ne_eqb, not-true, 
 use Rattle.bits.specs.Bit.{bit}
 use Rattle.bits.specs.Below.{first_below}
 use Rattle.bits.proofs.Laws.{bit-and, bit-zero}
-use Rattle.bits.proofs.Sets.{both, and_l, and_r}
+use Rattle.bits.proofs.Sets.{and_l, and_r}
 use Rattle.bits.proofs.Below.{First, first_is, first_by, count_in, count_most}
 use Rattle.registers.specs.declared.Block.{Block}
 use Rattle.registers.specs.Block.{mask_word, block_of}
@@ -68,7 +69,7 @@ is_guarded s n = bit (guarded (block_of s)) n
 module _ (s : List ℕ) (f : Frame) (n : ℕ) where
   pub hit : is_compared s f n ≡ true → takes s f n ≡ true → hits s f n ≡ true
   unfolding hits
-  hit p q = both (is_compared s f n) (takes s f n) p q
+  hit p q = and_from (is_compared s f n) (takes s f n) p q
 
   pub not-compared : is_compared s f n ≡ false → hits s f n ≡ false
   unfolding hits

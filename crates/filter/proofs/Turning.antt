@@ -1,57 +1,46 @@
--- A flag word with its bits in the other order, made bit by bit.
-use Prim.Native.Nat.{ℕ, zero, suc, ◌+◌, ◌-◌, ◌*◌, ◌/◌, ◌%◌, ◌^◌, ◌<◌, ◌≤◌}
-use mathlib.Core.Path.{◌≡◌, sym, ◌∙◌, ap}
-use native.Mathlib.Numerals.{one-add}
+-- A flag word with its bits in the other order, by what the library says of its own turning.
+use Prim.Native.Nat.{ℕ, zero, suc, ◌+◌, ◌-◌, ◌*◌, ◌/◌, ◌%◌, ◌<◌}
+use mathlib.Core.Path.{◌≡◌, refl, sym, ◌∙◌, ap}
+use mathlib.Core.Bool.{Bool, true, false}
+use lib.Dec.{ltb}
+use borrow.Author.Tests.{ltb-true, ltb-false}
 use native.Mathlib.Omega.{arith}
-use lib.Dec.{eqb}
-use lib.Pow.{shr-shr}
-use Rattle.bits.specs.Bit.{digit, bit}
-use Rattle.filter.proofs.Rest.{low-own}
+use Rattle.std.specs.Int.{w32, reverse_bits, reverse_bits_onto}
+use Rattle.bits.specs.Bit.{bit}
+use Rattle.bits.proofs.Laws.{bit-first, bit-suc}
+use Rattle.filter.specs.Parts.{Reversed}
 
--- what is left of w, and what is made of the i bits before
-pub record Halved (w i rest r : ℕ) : Type 0 where
-  pub most : i ≤ 32
-  pub left : rest ≡ w / 2 ^ i
-  pub made : (k : ℕ) → k < i → bit r k ≡ bit w (i - 1 - k)
+-- the bits of a stand above those that are turned
+kept : (k n a i : ℕ) → bit (reverse_bits_onto k n a) (k + i) ≡ bit a i
+unfolding reverse_bits_onto
+kept zero n a i = ap (bit a) (omega arith)
+kept (suc k) n a i =
+    let b = a * 2 + n % 2 in
+    let e : k + suc i ≡ suc k + i = omega arith in
+    let h : b / 2 ≡ a = omega arith in
+    ap (bit (reverse_bits_onto k (n / 2) b)) (sym e) ∙ kept k (n / 2) b (suc i) ∙ bit-suc b i ∙ ap (λ (x : ℕ). bit x i) h
 
-pub half_starts : (w : ℕ) → Halved w 0 w 0
-half_starts w = record { most = omega arith; left = omega arith; made = λ k h. absurd (omega arith) }
+-- and those below are the lowest k of n, last first
+turned : (k n a j : ℕ) → j < k → bit (reverse_bits_onto k n a) j ≡ bit n (k - 1 - j)
+unfolding reverse_bits_onto
+turned zero n a j l = absurd (omega arith)
+turned (suc k) n a j l = at (turned k (n / 2) (a * 2 + n % 2) j) (ltb j k) refl
+  where
+    b : ℕ
+    b = a * 2 + n % 2
 
--- a word with one bit more below it
-bit-above : (y x k : ℕ) → x < 2 → bit (y * 2 + x) (suc k) ≡ bit y k
-unfolding digit
-bit-above y x k h =
-    let e : (y * 2 + x) / 2 ^ 1 ≡ y = omega arith in
-    ap (λ (z : ℕ). eqb (z % 2) 1)
-    (ap (λ (j : ℕ). (y * 2 + x) / 2 ^ j) (sym (one-add k)) ∙ sym (shr-shr (y * 2 + x) 1 k) ∙ ap (λ (z : ℕ). z / 2 ^ k) e)
+    at : (j < k → bit (reverse_bits_onto k (n / 2) b) j ≡ bit (n / 2) (k - 1 - j)) → (t : Bool) → ltb j k ≡ t
+        → bit (reverse_bits_onto k (n / 2) b) j ≡ bit n (suc k - 1 - j)
+    at f true p =
+        let h = ltb-true j k p in
+        let e : suc (k - 1 - j) ≡ suc k - 1 - j = omega arith in
+        f h ∙ sym (bit-suc n (k - 1 - j)) ∙ ap (bit n) e
+    at f false p =
+        let h = ltb-false j k p in
+        let e : j ≡ k + 0 = omega arith in
+        let z : 0 ≡ suc k - 1 - j = omega arith in
+        let m : b % 2 ≡ n % 2 = omega arith in
+        ap (bit (reverse_bits_onto k (n / 2) b)) e ∙ kept k (n / 2) b 0 ∙ bit-first b m ∙ sym (bit-first n refl) ∙ ap (bit n) z
 
-module _ (w i rest r : ℕ) (h : i < 32) (a : Halved w i rest r) where
-  abbrev next : ℕ
-  next = r % 2 ^ 31 * 2 + rest % 2
-
-  made_more : (k : ℕ) → k < i + 1 → bit next k ≡ bit w (i + 1 - 1 - k)
-  unfolding digit
-  made_more zero l =
-      let e : next / 2 ^ 0 % 2 ≡ rest % 2 = omega arith in
-      let j : i ≡ i + 1 - 1 - 0 = omega arith in
-      ap (λ (z : ℕ). eqb z 1) e ∙ ap (λ (z : ℕ). eqb (z % 2) 1) a.left ∙ ap (bit w) j
-  made_more (suc k) l =
-      let j : i - 1 - k ≡ i + 1 - 1 - suc k = omega arith in
-      bit-above (r % 2 ^ 31) (rest % 2) k (omega arith)
-      ∙ low-own 31 r k (omega arith)
-      ∙ a.made k (omega arith)
-      ∙ ap (bit w) j
-
-  pub half_more : Halved w (i + 1) (rest / 2) next
-  half_more =
-      record {
-        most = omega arith;
-        left = ap (λ (x : ℕ). x / 2) a.left ∙ shr-shr w i 1;
-        made = made_more;
-      }
-
-pub half_ends : (w i rest r : ℕ) → 32 ≤ i → Halved w i rest r → (k : ℕ) → k < 32 → bit r k ≡ bit w (31 - k)
-half_ends w i rest r h a k l =
-    let m = a.most in
-    let e : i - 1 - k ≡ 31 - k = omega arith in
-    a.made k (omega arith) ∙ ap (bit w) e
+pub turns_all : (w : ℕ) → Reversed w (reverse_bits w32 w)
+turns_all w k l = turned 32 w 0 k l

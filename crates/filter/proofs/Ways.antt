@@ -6,7 +6,6 @@ use mathlib.Core.List.{List}
 use native.Mathlib.Omega.{arith}
 use Rattle.bits.specs.Bit.{bit}
 use Rattle.bits.proofs.Sets.{and_r}
-use Rattle.registers.specs.declared.Block.{Block}
 use Rattle.registers.specs.Block.{block_of}
 use Rattle.registers.specs.Modes.{on_bus}
 use Rattle.mailboxes.specs.Mailbox.{mailbox_word, rfh}
@@ -26,14 +25,6 @@ receives s n = bit (block_of s).md n
 
 abbrev pub replies : List ℕ → ℕ → Bool
 replies s n = rfh (mailbox_word s n 0)
-
--- the same tests, by a block that was loaded
-module _ (s : List ℕ) (b : Block) (loaded : b ≡ block_of s) where
-  pub heard_by : (r : Bool) → r ≡ on_bus b → heard s ≡ r
-  heard_by r e = ap on_bus (sym loaded) ∙ sym e
-
-  pub receives_by : (n : ℕ) (r : Bool) → r ≡ bit b.md n → receives s n ≡ r
-  receives_by n r e = ap (λ (x : Block). bit x.md n) (sym loaded) ∙ sym e
 
 -- ---- by the tests
 

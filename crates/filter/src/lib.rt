@@ -1,24 +1,24 @@
 // Filtering: which mailbox a frame goes to.
 #![tactic(auto)]
 
-ghost use Rattle.std.specs.Prelude.{◌≡◌, false, cond, ℕ, ◌<◌, length};
-ghost use Rattle.registers.specs.Block.{image_bytes, mask_word, block_of};
+ghost use Rattle.std.specs.Prelude.{◌≡◌, false, cond, ℕ, ◌<◌};
+ghost use Rattle.registers.specs.Block.{mask_word};
 ghost use Rattle.bits.specs.Bit.{bit};
 ghost use Rattle.registers.specs.Status.{ecan};
 ghost use Rattle.filter.specs.Filter.{candidates as candidates_of, compared as compared_of, frame_word, last_mailbox, seat as seat_of, differing as differing_of, agreeing, guarded as guarded_of, hits_at, compared_at, compared_before, found, placed, delivery};
-ghost use Rattle.filter.specs.Parts.{Reversed, Turned, takes_by};
+ghost use Rattle.filter.specs.Parts.{Turned, takes_by};
 
 use events::Frame;
-use registers::Block;
+use registers::{Block, Image, Loaded};
 
-// What the search finds.
+// What the search finds. Stays an enum of its own: it holds a count in both cases, so that it is no `Option`.
 #[derive(Clone, Copy)]
 pub enum Found {
     At { mailbox: u32, count: u32 },
     Missing { count: u32 },
 }
 
-// Where the frame goes.
+// Where the frame goes. Stays an enum of its own: three cases, of which two name a mailbox.
 #[derive(Clone, Copy)]
 pub enum Delivery {
     Into { mailbox: u32, count: u32 },
@@ -27,6 +27,7 @@ pub enum Delivery {
 }
 
 // The mailboxes that the frame is compared with.
+#[tactic(auto, unfolding(crate::specs::Filter::candidates))]
 fn candidates(b: Block, f: Frame) -> u32
     ensures { result ≡ candidates_of b f }
 {
@@ -40,7 +41,8 @@ fn compared(f: Frame) -> u32
     bits::choose(f.ide, 0x9FFF_FFFF, 0x9FFC_0000)
 }
 
-// IDE and identifier of the frame, as in word 0.
+// IDE and identifier of the frame, as in word 0. That the identifier has 29 bits stays a clause, here and below: `Frame` is declared in
+// events, and the definitions make identifiers of any number.
 fn frame_word(f: Frame) -> u32
     requires { f.id.0 < 536870912 }
     ensures { result ≡ frame_word f }
@@ -66,6 +68,7 @@ fn agrees(mask: u32, f: Frame, w: u32) -> bool
 }
 
 // The mailbox at place k of the search.
+#[tactic(auto, unfolding(crate::specs::Filter::seat))]
 pub fn seat(b: Block, k: u32) -> u32
     requires { k < 32 }
     ensures { result ≡ seat_of b k }
@@ -73,9 +76,10 @@ pub fn seat(b: Block, k: u32) -> u32
     bits::choose(b.is_ecan(), 31 - k, k)
 }
 
-// The mask of mailbox n, where `own` is that of a CAN-B.
-pub fn mask_at(s: &[u8], b: Block, own: u32, n: u32) -> u32
-    requires { (length s.now ≡ image_bytes) × (n < 32) }
+// The mask of mailbox n, where `own` is that of a CAN-B. Image and block stay two parameters, here and in `takes`: the promise is for
+// any block.
+pub fn mask_at(s: &Image, b: Block, own: u32, n: u32) -> u32
+    requires { n < 32 }
     ensures { result ≡ cond (ecan b) (mask_word s.now n) own }
 {
     if b.is_ecan() {
@@ -85,6 +89,7 @@ pub fn mask_at(s: &[u8], b: Block, own: u32, n: u32) -> u32
 }
 
 // The mailboxes that pass a matching frame over.
+#[tactic(auto, unfolding(crate::specs::Filter::guarded))]
 pub fn guarded(b: Block) -> u32
     ensures { result ≡ guarded_of b }
 {
@@ -92,48 +97,36 @@ pub fn guarded(b: Block) -> u32
 }
 
 // Does the mailbox at place k take the frame, where `own` is its mask in a CAN-B?
-fn takes(s: &[u8], b: Block, f: Frame, own: u32, k: u32) -> bool
-    requires { (length s.now ≡ image_bytes) × (f.id.0 < 536870912) × (k < 32) }
+#[tactic(auto, using(crate::proofs::Search::seat_lt), unfolding(crate::specs::Parts::takes_by))]
+fn takes(s: &Image, b: Block, f: Frame, own: u32, k: u32) -> bool
+    requires { (f.id.0 < 536870912) × (k < 32) }
     ensures { result ≡ takes_by s.now b f own k }
 {
     let n = seat(b, k);
     agrees(mask_at(s, b, own, n), f, mailboxes::word(s, n as usize, 0)) & !bits::test(guarded(b), n)
 }
 
-// w with its bits in the other order.
-fn reversed(w: u32) -> u32
-    ensures { Reversed w result }
-{
-    let mut rest = w;
-    let mut r: u32 = 0;
-    let mut i: u32 = 0;
-    while i < 32 {
-        r = r % 0x8000_0000 * 2 + rest % 2;
-        rest = rest / 2;
-        i += 1;
-    }
-    r
-}
-
 // A flag word with the mailbox at place k in bit k.
+#[tactic(auto, using(crate::proofs::Turning::turns_all, crate::proofs::Search::seat_down), unfolding(crate::specs::Filter::seat))]
 fn turned(b: Block, w: u32) -> u32
     ensures { Turned b w result }
 {
     if b.is_ecan() {
-        return reversed(w);
+        return w.reverse_bits();
     }
     w
 }
 
 // The last place, whose mailbox has a mask of its own in a CAN-B too, once those before it do not take the frame.
-fn last(s: &[u8], b: Block, f: Frame, pool: u32, count: u32) -> Found
-    requires { (length s.now ≡ image_bytes) × (b ≡ block_of s.now) × (f.id.0 < 536870912) × ((k : ℕ) → k < 32 → bit pool k ≡ compared_at s.now f k) × (count ≡ compared_before s.now f last_mailbox) × ((j : ℕ) → j < last_mailbox → hits_at s.now f j ≡ false) }
-    ensures { result ≡ found s.now f }
+fn last(m: Loaded, f: Frame, pool: u32, count: u32) -> Found
+    requires { (f.id.0 < 536870912) × ((k : ℕ) → k < 32 → bit pool k ≡ compared_at m.image.now f k) × (count ≡ compared_before m.image.now f last_mailbox) × ((j : ℕ) → j < last_mailbox → hits_at m.image.now f j ≡ false) }
+    ensures { result ≡ found m.entry.image.now f }
 {
+    let b = m.block;
     if pool < 0x8000_0000 {
         return Found::Missing { count };
     }
-    if takes(s, b, f, b.lam, 31) {
+    if takes(m.image, b, f, b.lam, 31) {
         return Found::At {
             mailbox: seat(b, 31),
             count: count + 1,
@@ -143,22 +136,24 @@ fn last(s: &[u8], b: Block, f: Frame, pool: u32, count: u32) -> Found
 }
 
 // The search, place by place, two a turn: it stops at the first mailbox that takes the frame. `rest` has the candidates from
-// place k on but the last one, that of place k lowest.
-pub fn find(s: &[u8], b: Block, f: Frame) -> Found
-    requires { (length s.now ≡ image_bytes) × (b ≡ block_of s.now) × (f.id.0 < 536870912) }
-    ensures { result ≡ found s.now f }
+// place k on but the last one, that of place k lowest. Stays a loop: document 01 wants the number and the count as what the loop
+// yields, and two a turn is for speed.
+pub fn find(m: Loaded, f: Frame) -> Found
+    requires { f.id.0 < 536870912 }
+    ensures { result ≡ found m.entry.image.now f }
 {
+    let b = m.block;
     let pool = turned(b, candidates(b, f));
     let mut rest = pool % 0x8000_0000;
     let mut k: u32 = 0;
     let mut count: u32 = 0;
     loop {
         if rest == 0 {
-            break last(s, b, f, pool, count);
+            break last(m, f, pool, count);
         }
         if rest % 2 == 1 {
             count += 1;
-            if takes(s, b, f, b.gam, k) {
+            if takes(m.image, b, f, b.gam, k) {
                 break Found::At {
                     mailbox: seat(b, k),
                     count,
@@ -167,7 +162,7 @@ pub fn find(s: &[u8], b: Block, f: Frame) -> Found
         }
         if rest / 2 % 2 == 1 {
             count += 1;
-            if takes(s, b, f, b.gam, k + 1) {
+            if takes(m.image, b, f, b.gam, k + 1) {
                 break Found::At {
                     mailbox: seat(b, k + 1),
                     count,
@@ -180,13 +175,15 @@ pub fn find(s: &[u8], b: Block, f: Frame) -> Found
 }
 
 // What mailbox n, which matched, does with the frame.
-fn place_at(s: &[u8], b: Block, n: u32, count: u32) -> Delivery
-    requires { (length s.now ≡ image_bytes) × (b ≡ block_of s.now) × (n < 32) }
-    ensures { result ≡ placed s.now (Found.At n count) }
+#[tactic(auto, unfolding(crate::specs::Filter::placed))]
+fn place_at(m: Loaded, n: u32, count: u32) -> Delivery
+    requires { n < 32 }
+    ensures { result ≡ placed m.entry.image.now (Found.At n count) }
 {
-    if bits::test(b.md, n) {
+    if bits::test(m.block.md, n) {
         return Delivery::Into { mailbox: n, count };
     }
+    let s = m.image;
     if bits::test(mailboxes::word(s, n as usize, 0), 29) {
         return Delivery::Reply { mailbox: n, count };
     }
@@ -194,15 +191,16 @@ fn place_at(s: &[u8], b: Block, n: u32, count: u32) -> Delivery
 }
 
 // Where the frame goes, if the unit takes part on the bus.
-pub fn deliver(s: &[u8], b: Block, f: Frame) -> Delivery
-    requires { (length s.now ≡ image_bytes) × (b ≡ block_of s.now) × (f.id.0 < 536870912) }
-    ensures { result ≡ delivery s.now f }
+#[tactic(auto, unfolding(crate::specs::Filter::delivery, crate::specs::Filter::placed))]
+pub fn deliver(m: Loaded, f: Frame) -> Delivery
+    requires { f.id.0 < 536870912 }
+    ensures { result ≡ delivery m.entry.image.now f }
 {
-    if !b.is_on_bus() {
+    if !m.block.is_on_bus() {
         return Delivery::Nowhere { count: 0 };
     }
-    match find(s, b, f) {
-        Found::At { mailbox, count } => place_at(s, b, mailbox, count),
+    match find(m, f) {
+        Found::At { mailbox, count } => place_at(m, mailbox, count),
         Found::Missing { count } => Delivery::Nowhere { count },
     }
 }

@@ -1,14 +1,16 @@
 // A fresh model.
 #![tactic(auto)]
 
-ghost use Rattle.std.specs.Prelude.{◌≡◌, length, replicate};
-ghost use Rattle.registers.specs.Block.{image_bytes, put_block};
+ghost use Rattle.std.specs.Prelude.{◌≡◌};
+ghost use Rattle.registers.specs.Block.{put_block};
 ghost use Rattle.answers.specs.Answer.{Promise};
 ghost use Rattle.fresh.specs.Fresh.{fresh_block, fresh as fresh_of};
 
-use registers::Block;
+use answers::{NO_MAILBOX, Refusal};
+use registers::{Block, IMAGE_BYTES, Image};
 
 // The registers of a fresh model: mailbox 31 of a CAN-B receives, the mode is configuration, none waits, nobody is in the slot.
+// stays: the profile is a number, as frostsorrel_fresh of the C interface and the last word of the image have it.
 pub fn fresh_block(profile: u32) -> Block
     ensures { result ≡ fresh_block profile }
 {
@@ -47,19 +49,8 @@ pub fn fresh_block(profile: u32) -> Block
     }
 }
 
-fn clear(s: &mut [u8])
-    ensures { s.new ≡ replicate (length s.old) 0 }
-{
-    let mut i: usize = 0;
-    while i < s.len() {
-        s[i] = 0;
-        i += 1;
-    }
-}
-
 // The register words of a fresh model, in bytes that are zero elsewhere.
-pub fn fill_registers(image: &mut [u8], profile: u32)
-    requires { length image.old ≡ image_bytes }
+pub fn fill_registers(image: &mut Image, profile: u32)
     ensures { image.new ≡ put_block image.old (fresh_block profile) }
 {
     fresh_block(profile).store(image)
@@ -70,13 +61,13 @@ pub fn fill_registers(image: &mut [u8], profile: u32)
 pub fn fresh(image: &mut [u8], profile: u32) -> u64
     ensures { Promise (fresh_of image.old profile) image.new result }
 {
-    if image.len() != registers::IMAGE_BYTES {
-        return answers::pack(1, 32, 0);
-    }
+    let Some(image) = image.as_mut_array::<IMAGE_BYTES>() else {
+        return answers::refuse(Refusal::NoModel);
+    };
     if profile > registers::E_CAN {
-        return answers::pack(4, 32, 0);
+        return answers::refuse(Refusal::NotAllowed);
     }
-    clear(image);
+    image.fill(0);
     fill_registers(image, profile);
-    answers::pack(0, 32, 0)
+    answers::pack(0, NO_MAILBOX, 0)
 }

@@ -1,4 +1,4 @@
-// The C entry points of the model.
+// The C entry points of the model. They stay as they are: slices of any length and packed numbers are the C interface's form.
 #![tactic(auto)]
 
 ghost use Rattle.rules.specs.Calls.{FreshCall, StepCall, ReadCall, CompareCall};

@@ -1,4 +1,5 @@
 -- A good register block by its facts, one by one, both ways.
+use Rattle.std.proofs.lemmas.Bool.{and_from}
 use Prim.Native.Nat.{ℕ, ◌+◌, ◌/◌, ◌%◌, ◌^◌, ◌<◌, ◌≤◌}
 use mathlib.Core.Path.{◌≡◌, refl, sym, ◌∙◌, ap}
 use mathlib.Core.Bool.{Bool, true, false, not, ◌&&◌, ◌||◌, false≢true}
@@ -9,7 +10,7 @@ use lib.Dec.{eqb, ltb, leb, lit<}
 use borrow.Author.Tests.{ltb-true, leb-true, eqb-true, eqb-false, lt-ltb, le-leb, eq-eqb, ne_eqb, not-true}
 use Rattle.bits.specs.Bit.{bit}
 use Rattle.bits.proofs.Laws.{bit-flag, bit_high}
-use Rattle.bits.proofs.Sets.{both, and_l, and_r, Within, Apart, within_word, word-within, apart-word, word-apart, within-mask}
+use Rattle.bits.proofs.Sets.{and_l, and_r, Within, Apart, within_word, word-within, apart-word, word-apart, within-mask}
 use Rattle.bits.specs.Tests.{every, implies}
 use Rattle.bits.proofs.Tests.{All, all, holds, given, implied}
 use Rattle.registers.specs.declared.Block.{Block}
@@ -321,7 +322,7 @@ module _ (b : Block) (g : GoodBlock b) where
   waits_hold : (leb 1 b.waiting && waits_for_reason b) ≡ true
   waits_hold =
       let w = g.waits in
-      both (leb 1 b.waiting) (waits_for_reason b) (le-leb _ _ w.least)
+      and_from (leb 1 b.waiting) (waits_for_reason b) (le-leb _ _ w.least)
       (implied (not (eqb b.waiting no_mode)) (filled b || bus_off b)
       (λ p. last_or b.slot b.tec (w.reason (eqb-false _ _ (not-true _ p)))))
 

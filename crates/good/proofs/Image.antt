@@ -1,4 +1,5 @@
 -- A good image by its facts, both ways; another mailbox or another register block in it.
+use Rattle.std.proofs.lemmas.Bool.{and_from}
 use Prim.Native.Nat.{ℕ, zero, suc, ◌+◌, ◌*◌, ◌^◌, ◌<◌, ◌≤◌}
 use mathlib.Core.Path.{◌≡◌, refl, ◌∙◌}
 use mathlib.Core.Bool.{Bool, true, false, ◌&&◌}
@@ -10,7 +11,7 @@ use lib.Pow.{pow_mono}
 use native.Mathlib.Nat.{lt_of_lt_of_le}
 use lib.ListN.{get_or, length}
 use borrow.Author.Tests.{eqb-true, eq-eqb, ltb-true, ltb-false}
-use Rattle.bits.proofs.Sets.{both, and_l, and_r, within_le}
+use Rattle.bits.proofs.Sets.{and_l, and_r, within_le}
 use Rattle.bits.proofs.Below.{each_below, all_below_lem}
 use Rattle.bits.specs.Tests.{every}
 use Rattle.bits.proofs.Tests.{all, holds}
@@ -88,7 +89,7 @@ image_facts s h g =
 pub image-good : (s : List ℕ) → GoodImage s → good_image s ≡ true
 unfolding good_image good_layouts good_masks
 image-good s f =
-    both (eqb (length s) image_bytes) (every (contents s)) (eq-eqb _ _ f.size)
+    and_from (eqb (length s) image_bytes) (every (contents s)) (eq-eqb _ _ f.size)
     (holds (contents s) (all_below_lem (layout s) mailboxes f.layouts, (f.spare, (all_below_lem (good_mask s) mailboxes f.masks, (block_good (block_of s) f.block, tt)))))
 
 -- ---- every word of a good block fits its four bytes

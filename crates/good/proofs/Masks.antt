@@ -1,4 +1,5 @@
 -- Masks judged together: `|` of numbers has two bits in a row where one of them has.
+use Rattle.std.proofs.lemmas.Bool.{and_from}
 use Prim.Native.Nat.{ℕ, zero, suc, ◌+◌, ◌*◌, ◌/◌, ◌%◌, ◌^◌, ◌<◌}
 use mathlib.Core.Path.{◌≡◌, refl, sym, ◌∙◌, ap, ap₂}
 use mathlib.Core.List.{List}
@@ -12,8 +13,9 @@ use Rattle.bits.specs.Bit.{digit, bit}
 use Rattle.bits.specs.Tests.{gap_down}
 use Rattle.bits.proofs.Laws.{bit-or}
 use Rattle.bits.specs.Below.{all_below}
-use Rattle.bits.proofs.Below.{each_below}
-use Rattle.bits.proofs.Sets.{both, and_l, and_r}
+use Rattle.bits.proofs.Below.{each_below, all_below_lem}
+use Rattle.bits.proofs.Tests.{same_test}
+use Rattle.bits.proofs.Sets.{and_l, and_r}
 use Rattle.good.specs.Good.{good_mask}
 use Rattle.good.specs.Gathered.{bare, good_pair}
 use Rattle.good.proofs.Stretches.{interchange}
@@ -83,7 +85,7 @@ module _ (s : List ℕ) where
   turn : (j : ℕ) → j < 16 → at (j / 2 + 8 * (j % 2)) ≡ j
   turn j h = eqb-true _ _ (each_below (λ j. eqb (at (j / 2 + 8 * (j % 2))) j) 16 turns j h)
 
-  pub all_pairs : ((k : ℕ) → k < 16 → good_pair s k ≡ true) → (n : ℕ) → n < 32 → good_mask s n ≡ true
+  all_pairs : ((k : ℕ) → k < 16 → good_pair s k ≡ true) → (n : ℕ) → n < 32 → good_mask s n ≡ true
   all_pairs h n l = of (n % 2) refl
     where
       both_good_lem : (good_mask s (2 * (n / 2)) && good_mask s (2 * (n / 2) + 1)) ≡ true
@@ -100,5 +102,12 @@ module _ (s : List ℕ) where
           ap (good_mask s) (sym i) ∙ and_r (good_mask s (2 * (n / 2))) (good_mask s (2 * (n / 2) + 1)) both_good_lem
       of (suc (suc r)) e = absurd (omega arith)
 
-  pub all-masks : ((n : ℕ) → n < 32 → good_mask s n ≡ true) → (k : ℕ) → k < 16 → good_pair s k ≡ true
-  all-masks h k l = both (good_mask s (2 * at k)) (good_mask s (2 * at k + 1)) (h (2 * at k) (omega arith)) (h (2 * at k + 1) (omega arith))
+  all-masks : ((n : ℕ) → n < 32 → good_mask s n ≡ true) → (k : ℕ) → k < 16 → good_pair s k ≡ true
+  all-masks h k l = and_from (good_mask s (2 * at k)) (good_mask s (2 * at k + 1)) (h (2 * at k) (omega arith)) (h (2 * at k + 1) (omega arith))
+
+  -- all pairs are good exactly where all masks are
+  pub pairs_masks : all_below (good_pair s) 16 ≡ all_below (good_mask s) 32
+  pairs_masks =
+      same_test (all_below (good_pair s) 16) (all_below (good_mask s) 32)
+      (λ h. all_below_lem (good_mask s) 32 (all_pairs (each_below (good_pair s) 16 h)))
+      (λ h. all_below_lem (good_pair s) 16 (all-masks (each_below (good_mask s) 32 h)))

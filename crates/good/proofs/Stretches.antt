@@ -1,4 +1,5 @@
 -- How many layouts are judged at once: what is gathered of each mailbox, of two, and of stretches of them.
+use Rattle.std.proofs.lemmas.Bool.{and_from}
 use Prim.Native.Nat.{ℕ, ◌+◌, ◌-◌, ◌*◌, ◌/◌, ◌%◌, ◌^◌, ◌<◌, ◌≤◌}
 use mathlib.Core.Path.{◌≡◌, refl, sym, ◌∙◌, ap, ap₂}
 use mathlib.Core.Bool.{Bool, true, false, ◌&&◌, ◌||◌, false≢true}
@@ -12,7 +13,7 @@ use Rattle.bits.specs.Bit.{digit, bit}
 use Rattle.bits.specs.Below.{all_below}
 use Rattle.bits.proofs.Below.{each_below}
 use Rattle.bits.proofs.Tests.{same_test}
-use Rattle.bits.proofs.Sets.{both, and_l, and_r, within_le, or-within_l, or-within_r}
+use Rattle.bits.proofs.Sets.{and_l, and_r, within_le, or-within_l, or-within_r}
 use Rattle.mailboxes.specs.Mailbox.{word_layout}
 use Rattle.good.specs.Gathered.{Stretch}
 
@@ -43,7 +44,7 @@ identifier_test w h = at (bit w 31) refl (eqb (w % 262144) 0) refl
 pub or-ltb : (k a b : ℕ) → ltb (bit_or a b) (2 ^ k) ≡ (ltb a (2 ^ k) && ltb b (2 ^ k))
 or-ltb k a b =
     same_test (ltb (bit_or a b) (2 ^ k)) (ltb a (2 ^ k) && ltb b (2 ^ k))
-    (λ h. both _ _
+    (λ h. and_from _ _
     (lt-ltb _ _ (lt_of_le_of_lt (within_le (or-within_l a b)) (ltb-true _ _ h)))
     (lt-ltb _ _ (lt_of_le_of_lt (within_le (or-within_r a b)) (ltb-true _ _ h))))
     (λ h. lt-ltb _ _ (or_lt k a b (ltb-true _ _ (and_l (ltb a (2 ^ k)) (ltb b (2 ^ k)) h)) (ltb-true _ _ (and_r (ltb a (2 ^ k)) (ltb b (2 ^ k)) h))))
@@ -59,7 +60,7 @@ or_control a b =
     let z : bit_or x y ≡ 0 = sym fields ∙ eqb-true _ _ h in
     let p : x ≡ 0 = omega (arith, within_le (or-within_l x y)) in
     let q : y ≡ 0 = omega (arith, within_le (or-within_r x y)) in
-    both _ _ (eq-eqb _ _ p) (eq-eqb _ _ q))
+    and_from _ _ (eq-eqb _ _ p) (eq-eqb _ _ q))
     (λ h.
     let p : x ≡ 0 = eqb-true _ _ (and_l (word_layout 1 a) (word_layout 1 b) h) in
     let q : y ≡ 0 = eqb-true _ _ (and_r (word_layout 1 a) (word_layout 1 b) h) in
@@ -80,24 +81,6 @@ interchange true false false d = refl
 interchange false b c d = refl
 
 -- ---- stretches
-
-pub alone : (p : ℕ → Bool) (n : ℕ) (t : Bool) → t ≡ p n → Stretch p n (n + 1) t
-alone p n t h = (
-  λ q i l k.
-      let e : n ≡ i = omega arith in
-      ap p (sym e) ∙ sym h ∙ q,
-  λ f. h ∙ f n (omega arith) (omega arith),
-)
-
-pub joins : (p : ℕ → Bool) (a m d e : ℕ) (t u r : Bool) → a ≤ m → m ≤ d → e ≡ d → r ≡ (t && u) → Stretch p a m t → Stretch p m d u → Stretch p a e r
-joins p a m d e t u r h k w c x y = (
-  λ q i l j. at (sym c ∙ q) i l j (ltb i m) refl,
-  λ f. c ∙ both t u (x.1 (λ i l j. f i l (omega arith))) (y.1 (λ i l j. f i (omega arith) (omega arith))),
-)
-  where
-    at : (t && u) ≡ true → (i : ℕ) → a ≤ i → i < e → (b : Bool) → ltb i m ≡ b → p i ≡ true
-    at q i l j true z = x.0 (and_l t u q) i l (ltb-true i m z)
-    at q i l j false z = y.0 (and_r t u q) i (ltb-false i m z) (omega arith)
 
 -- from what holds below n to what holds below e
 pub grown : (p : ℕ → Bool) (n e : ℕ) (t : Bool) → Stretch p n e t → t ≡ true → ((i : ℕ) → i < n → p i ≡ true) → (i : ℕ) → i < e → p i ≡ true

@@ -1,14 +1,18 @@
 // Is an image good?
 #![tactic(auto)]
 
-ghost use Rattle.std.specs.Prelude.{◌≡◌, ◌&&◌, eqb, ltb, ◌+◌, ◌<◌, ◌≤◌, length};
+mod gather;
+
+ghost use Rattle.std.specs.Prelude.{◌≡◌, ◌&&◌, ◌+◌, ◌≤◌, true, false, eqb, ltb, refl, MatchOption};
+ghost use Rattle.std.proofs.Common.{rules};
 ghost use Rattle.words.specs.Word.{word_at};
 ghost use Rattle.registers.specs.Block.{image_bytes, empty_slot};
 ghost use Rattle.mailboxes.specs.Mailbox.{layout, word_layout};
 ghost use Rattle.good.specs.Good.{good_flags, good_numbers, good_slot, good_block, good_layouts, good_spare, good_masks, good_image};
-ghost use Rattle.good.specs.Gathered.{clean, Stretch, bare, good_pair};
+ghost use Rattle.good.specs.Gathered.{clean, bare, good_pair};
 
-use registers::{Block, CAN_B, E_CAN, EMPTY_SLOT};
+use gather::Gather;
+use registers::{Block, CAN_B, E_CAN, EMPTY_SLOT, Image};
 
 const TOP: u32 = 0x8000_0000;
 
@@ -90,82 +94,89 @@ fn identifier_sum(w: u32) -> u64
     (w % 262144 + (1 - w / 2147483648) * 2147483648) as u64 + 2147483647
 }
 
-fn gather(s: &[u8], n: usize) -> Gathered
-    requires { (length s.now ≡ image_bytes) × (n < 32) }
-    ensures { clean result ≡ layout s.now n }
-{
-    Gathered {
-        identifiers: identifier_sum(mailboxes::word(s, n, 0)),
-        controls: mailboxes::word(s, n, 1),
+// The layout of every mailbox.
+impl Gather for Gathered {
+    ghost rule = { layout };
+
+    ghost kept = { clean };
+
+    const PLACES: usize = 32;
+
+    ghost PLACES = { 32 };
+
+    ghost few = { Prim.search rules };
+
+    ghost eights = { refl };
+
+    fn one(s: &Image, n: usize) -> Gathered {
+        Gathered {
+            identifiers: identifier_sum(mailboxes::word(s, n, 0)),
+            controls: mailboxes::word(s, n, 1),
+        }
+    }
+
+    fn join(self, other: Gathered) -> Gathered {
+        Gathered {
+            identifiers: self.identifiers | other.identifiers,
+            controls: self.controls | other.controls,
+        }
+    }
+
+    // Bits 15 to 5 of words 1 are put above 2^32, so that one branch judges both: a second one costs more than it spares.
+    fn is_kept(self) -> bool {
+        self.identifiers | (self.controls / 32 % 2048) as u64 * 4294967296 < 4294967296
     }
 }
 
-fn joined(x: Gathered, y: Gathered) -> Gathered
-    ensures { clean result ≡ (clean x && clean y) }
-{
-    Gathered {
-        identifiers: x.identifiers | y.identifiers,
-        controls: x.controls | y.controls,
+// The masks of two mailboxes as one number; `|` of such numbers has bits 30 and 29 of a mask where one of them has.
+#[derive(Clone, Copy)]
+struct Pair(u64);
+
+// The mask of every mailbox. Of the 16 pairs every other one comes first, then those between, so that the compiler has no neighbours
+// to make vectors of.
+impl Gather for Pair {
+    ghost rule = { good_pair };
+
+    ghost kept = { λ p. bare p.0 };
+
+    const PLACES: usize = 16;
+
+    ghost PLACES = { 16 };
+
+    ghost few = { Prim.search rules };
+
+    ghost eights = { refl };
+
+    fn one(s: &Image, k: usize) -> Pair {
+        Pair(words::long_at(s, registers::MASKS_AT + 8 * (k % 8 * 2 + k / 8)))
+    }
+
+    fn join(self, other: Pair) -> Pair {
+        Pair(self.0 | other.0)
+    }
+
+    fn is_kept(self) -> bool {
+        (self.0 / 536870912 % 4 == 0) & (self.0 / 2305843009213693952 % 4 == 0)
     }
 }
 
-// Bits 15 to 5 of words 1 are put above 2^32, so that one branch judges both: a second one costs more than it spares.
-fn is_clean(x: Gathered) -> bool
-    ensures { result ≡ clean x }
-{
-    x.identifiers | (x.controls / 32 % 2048) as u64 * 4294967296 < 4294967296
-}
-
-fn two(s: &[u8], n: usize) -> Gathered
-    requires { (length s.now ≡ image_bytes) × (n + 2 ≤ 32) }
-    ensures { Stretch (layout s.now) n (n + 2) (clean result) }
-{
-    joined(gather(s, n), gather(s, n + 1))
-}
-
-fn four(s: &[u8], n: usize) -> Gathered
-    requires { (length s.now ≡ image_bytes) × (n + 4 ≤ 32) }
-    ensures { Stretch (layout s.now) n (n + 4) (clean result) }
-{
-    joined(two(s, n), two(s, n + 2))
-}
-
-fn eight(s: &[u8], n: usize) -> Gathered
-    requires { (length s.now ≡ image_bytes) × (n + 8 ≤ 32) }
-    ensures { Stretch (layout s.now) n (n + 8) (clean result) }
-{
-    joined(four(s, n), four(s, n + 4))
-}
-
-// The layout of every mailbox, eight at a time: a branch for each mailbox would cost more than its test, and without any the
-// compiler gathers the words into vectors, which costs more still.
-fn good_layouts(s: &[u8]) -> bool
-    requires { length s.now ≡ image_bytes }
+// The layout of every mailbox.
+fn good_layouts(s: &Image) -> bool
     ensures { result ≡ good_layouts s.now }
 {
-    let mut n: usize = 0;
-    loop {
-        if n == 32 {
-            break true;
-        }
-        if !is_clean(eight(s, n)) {
-            break false;
-        }
-        n += 8;
-    }
+    gather::are_kept::<Gathered>(s)
 }
 
 // Are two words in a row zero? They are read as one number.
-fn are_zero(s: &[u8], at: usize) -> bool
-    requires { (length s.now ≡ image_bytes) × (at + 8 ≤ image_bytes) }
+fn are_zero(s: &Image, at: usize) -> bool
+    requires { at + 8 ≤ image_bytes }
     ensures { result ≡ (eqb (word_at s.now at) 0 && eqb (word_at s.now (at + 4)) 0) }
 {
-    words::word_at(s, at) as u64 + 4294967296 * (words::word_at(s, at + 4) as u64) == 0
+    words::long_at(s, at) == 0
 }
 
 // The four spare words. Of four tests without a branch LLVM makes one of vectors, which costs more.
-fn good_spare(s: &[u8]) -> bool
-    requires { length s.now ≡ image_bytes }
+fn good_spare(s: &Image) -> bool
     ensures { result ≡ good_spare s.now }
 {
     if !are_zero(s, 624) {
@@ -174,66 +185,31 @@ fn good_spare(s: &[u8]) -> bool
     are_zero(s, 632)
 }
 
-// The masks of two mailboxes as one number; `|` of such numbers has bits 30 and 29 of a mask where one of them has. Of the 16 pairs
-// every other one comes first, then those between, so that the compiler has no neighbours to make vectors of.
-fn pair(s: &[u8], k: usize) -> u64
-    requires { (length s.now ≡ image_bytes) × (k < 16) }
-    ensures { bare result ≡ good_pair s.now k }
-{
-    let at = registers::MASKS_AT + 8 * (k % 8 * 2 + k / 8);
-    words::word_at(s, at) as u64 + 4294967296 * (words::word_at(s, at + 4) as u64)
-}
-
-fn two_pairs(s: &[u8], k: usize) -> u64
-    requires { (length s.now ≡ image_bytes) × (k + 2 ≤ 16) }
-    ensures { Stretch (good_pair s.now) k (k + 2) (bare result) }
-{
-    pair(s, k) | pair(s, k + 1)
-}
-
-fn four_pairs(s: &[u8], k: usize) -> u64
-    requires { (length s.now ≡ image_bytes) × (k + 4 ≤ 16) }
-    ensures { Stretch (good_pair s.now) k (k + 4) (bare result) }
-{
-    two_pairs(s, k) | two_pairs(s, k + 2)
-}
-
-fn eight_pairs(s: &[u8], k: usize) -> u64
-    requires { (length s.now ≡ image_bytes) × (k + 8 ≤ 16) }
-    ensures { Stretch (good_pair s.now) k (k + 8) (bare result) }
-{
-    four_pairs(s, k) | four_pairs(s, k + 4)
-}
-
-fn is_bare(x: u64) -> bool
-    ensures { result ≡ bare x }
-{
-    (x / 536870912 % 4 == 0) & (x / 2305843009213693952 % 4 == 0)
-}
-
-// The mask of every mailbox, half of the pairs at a time.
-fn good_masks(s: &[u8]) -> bool
-    requires { length s.now ≡ image_bytes }
+// The mask of every mailbox, by pairs.
+fn good_masks(s: &Image) -> bool
     ensures { result ≡ good_masks s.now }
 {
-    let mut k: usize = 0;
-    loop {
-        if k == 16 {
-            break true;
-        }
-        if !is_bare(eight_pairs(s, k)) {
-            break false;
-        }
-        k += 8;
-    }
+    gather::are_kept::<Pair>(s)
+}
+
+// Every clause on the contents of an image.
+fn is_good(image: &Image) -> bool
+    ensures { result ≡ good_image image.now }
+{
+    good_layouts(image) & good_spare(image) & good_masks(image) & good_block(Block::load(image))
+}
+
+// Any bytes of any length as an image, where they are a good one.
+pub fn as_good_image(s: &[u8]) -> Option<&Image>
+    ensures { MatchOption result (good_image s.now ≡ false) (λ image. (good_image s.now ≡ true) × (image.now ≡ s.now)) }
+{
+    let image = s.as_array()?;
+    if is_good(image) { Some(image) } else { None }
 }
 
 // Any bytes of any length: are they a good image?
 pub fn good_image(s: &[u8]) -> bool
     ensures { result ≡ good_image s.now }
 {
-    if s.len() != registers::IMAGE_BYTES {
-        return false;
-    }
-    good_layouts(s) & good_spare(s) & good_masks(s) & good_block(Block::load(s))
+    as_good_image(s).is_some()
 }

@@ -1,4 +1,5 @@
 -- Choices inside words, and words of flags.
+use Rattle.std.proofs.lemmas.Bool.{and_from}
 use Prim.Native.Nat.{ℕ, ◌<◌}
 use mathlib.Core.Path.{◌≡◌, refl, sym, ◌∙◌, ap, subst}
 use mathlib.Core.Bool.{Bool, true, false, not, cond}
@@ -6,7 +7,7 @@ use lib.Bits.{bit_and, bit_or, or_lt}
 use borrow.Author.Tests.{eq-eqb}
 use Rattle.bits.specs.Bit.{bit, mask, without, flag}
 use Rattle.bits.proofs.Laws.{bit-and, bit-without, bit-flag, flag_lt}
-use Rattle.bits.proofs.Sets.{Within, Apart, both, within-zero, within_self, within_trans, without-within, apart-without, within-apart}
+use Rattle.bits.proofs.Sets.{Within, Apart, within-zero, within_self, within_trans, without-within, apart-without, within-apart}
 
 -- a choice has what both of its sides have, each with the test's answer in hand
 pub either : {A : Type 0} (P : A → Type 0) (t : Bool) {x y : A} → (t ≡ true → P x) → (t ≡ false → P y) → P (cond t x y)
@@ -27,10 +28,10 @@ gif_lt {w} t n h l = or_lt 8 w (flag t n) h (flag_lt t n 8 l)
 -- what shares nothing with c stays within b when c is taken away
 pub within_spared : {a b c : ℕ} → Within a b → Apart a c → Within a (without b c)
 within_spared {a} {b} {c} w f =
-    record { has = λ n p. bit-without b c n ∙ both (bit b n) (not (bit c n)) (w.has n p) (ap not (f.never n p)) }
+    record { has = λ n p. bit-without b c n ∙ and_from (bit b n) (not (bit c n)) (w.has n p) (ap not (f.never n p)) }
 
 pub within-and : {a b c : ℕ} → Within a b → Within a c → Within a (bit_and b c)
-within-and {a} {b} {c} v w = record { has = λ n p. bit-and b c n ∙ both (bit b n) (bit c n) (v.has n p) (w.has n p) }
+within-and {a} {b} {c} v w = record { has = λ n p. bit-and b c n ∙ and_from (bit b n) (bit c n) (v.has n p) (w.has n p) }
 
 -- a word without all that it has lies within any
 pub within_gone : {a c : ℕ} (x : ℕ) → Within a c → Within (without a c) x

@@ -4,6 +4,7 @@
 
 ghost use Rattle.rules.specs.Calls.{ListingCall};
 
+// stays as it is: the C interface's form, a number, and 0 where there is no room.
 // uint64_t frostsorrel_listing(const uint8_t *trace, size_t trace_len, uint8_t *text, size_t text_len)
 #[unsafe(no_mangle)]
 pub extern "C" fn frostsorrel_listing(trace: &[u8], text: &mut [u8]) -> u64

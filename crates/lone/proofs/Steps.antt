@@ -1,4 +1,5 @@
 -- One step of a tool alone: what it leaves of TEC.
+use Rattle.std.proofs.lemmas.Bool.{or_parts}
 use Prim.Native.Nat.{ℕ, ◌+◌, ◌<◌, ◌≤◌}
 use mathlib.Core.Path.{◌≡◌, refl, sym, ◌∙◌}
 use mathlib.Core.Bool.{Bool, true, false, cond}
@@ -7,7 +8,6 @@ use mathlib.Core.Logic.{◌≢◌, inl, inr}
 use native.Mathlib.Decide.{ℕ_discrete}
 use native.Mathlib.Omega.{arith}
 use borrow.Author.Tests.{ne_eqb, ltb-false, lt-ltb}
-use Rattle.bits.proofs.Tests.{neither}
 use Rattle.words.specs.Bytes.{Bytes}
 use Rattle.model.specs.Step.{step}
 use Rattle.rules.specs.Words.{Words, words, TEC, WAITING}
@@ -49,7 +49,7 @@ module _ (s e : List ℕ) (bytes : Bytes s) (small : Bytes e) where
   -- passive, TEC stays; otherwise it is at most 127 before, and 135 after
   room : (t : Bool) → passive (words s) ≡ t → words s TEC < 256 → cond t (words s TEC) (words s TEC + 8) < 256
   room true e h = h
-  room false e h = let l = ltb-false 127 (words s TEC) (neither _ _ e).0 in omega arith
+  room false e h = let l = ltb-false 127 (words s TEC) (or_parts _ _ e).0 in omega arith
 
   pub below : words s TEC < 256 → Alone e → words (step s e).image TEC < 256
   below h a = stays-or_moves s e bytes small (step s e) (step_meets s e bytes small) (λ x. words x TEC < 256) h (at a)

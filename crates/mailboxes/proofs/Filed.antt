@@ -1,4 +1,5 @@
 -- Receiving and sending: what stands in the 16 bytes of a mailbox once a frame is stored there, or stamped as sent.
+use Rattle.std.proofs.lemmas.Bool.{and_from, or_left, or_right}
 use Prim.Native.Nat.{ℕ, zero, suc, ◌+◌, ◌*◌, ◌/◌, ◌%◌, ◌^◌, ◌<◌, ◌≤◌}
 use mathlib.Core.Path.{◌≡◌, refl, sym, ◌∙◌, ap}
 use mathlib.Core.Bool.{Bool, true, false, cond}
@@ -9,7 +10,7 @@ use lib.Dec.{eqb, ltb, lit≤}
 use lib.ListN.{get_or, length}
 use borrow.Author.Tests.{eq-eqb, ne_eqb, ltb-false, eqb-true}
 use Rattle.bits.specs.Bit.{digit, bit}
-use Rattle.bits.proofs.Sets.{both, and_l, and_r, or_l, or_r}
+use Rattle.bits.proofs.Sets.{and_l, and_r}
 use Rattle.words.specs.Word.{word_at, put_word}
 use Rattle.words.proofs.Bytes.{Bytes, bytes-put}
 use Rattle.words.proofs.Laws.{length-put, byte-other, word_same, word-other}
@@ -165,7 +166,7 @@ module _ (m : List ℕ) (ide rtr : Bool) (i : Identifier) (dlc new tsc : ℕ) (s
 -- by their first two words
 layout-words : (m : List ℕ) (a c : ℕ) → word_at m 0 ≡ a → word_at m 4 ≡ c → word_layout 0 a ≡ true → word_layout 1 c ≡ true → layout m 0 ≡ true
 unfolding layout
-layout-words m a c p q ha hc = both _ _ (ap (word_layout 0) p ∙ ha) (ap (word_layout 1) q ∙ hc)
+layout-words m a c p q ha hc = and_from _ _ (ap (word_layout 0) p ∙ ha) (ap (word_layout 1) q ∙ hc)
 
 layout_0 : (m : List ℕ) → layout m 0 ≡ true → word_layout 0 (word_at m 0) ≡ true
 unfolding layout
@@ -194,10 +195,10 @@ identifier-layout : (old : ℕ) (ide : Bool) (i : Identifier) → (ide ≡ false
     → word_layout 0 (filed_identifier old ide i) ≡ true
 identifier-layout old true i low h =
     let w = filed_identifier old true i in
-    or_l (ide_of w) (eqb (w % 2 ^ 18) 0) (identifier-ide old i h true)
+    or_left (ide_of w) (eqb (w % 2 ^ 18) 0) (identifier-ide old i h true)
 identifier-layout old false i low h =
     let w = filed_identifier old false i in
-    or_r (ide_of w) (eqb (w % 2 ^ 18) 0) (eq-eqb _ _ (identifier-low old i h false ∙ low refl))
+    or_right (ide_of w) (eqb (w % 2 ^ 18) 0) (eq-eqb _ _ (identifier-low old i h false ∙ low refl))
 
 pub filed-layout : (m : List ℕ) (ide rtr : Bool) (i : Identifier) (dlc new tsc : ℕ) → length m ≡ 16 → (ide ≡ false → i.0 % 2 ^ 18 ≡ 0)
     → i.0 < 2 ^ 29 → dlc ≤ highest_dlc → tsc < 65536 → layout (filed m ide rtr i dlc new tsc) 0 ≡ true

@@ -1,9 +1,8 @@
 -- A mailbox replaced by any 16 bytes: it is what was put, and every other byte stays.
-use Prim.Native.Nat.{ℕ, zero, suc, ◌+◌, ◌-◌, ◌*◌, ◌<◌, ◌≤◌}
-use mathlib.Core.Path.{◌≡◌, refl, sym, ◌∙◌, ap}
-use mathlib.Core.Bool.{Bool, true, false, cond}
+use Prim.Native.Nat.{ℕ, ◌+◌, ◌-◌, ◌*◌, ◌<◌, ◌≤◌}
+use mathlib.Core.Path.{◌≡◌, sym, ◌∙◌, ap}
 use mathlib.Core.List.{List, ◌++◌}
-use mathlib.Core.Logic.{◌⊎◌, inl, inr, ◌≢◌}
+use mathlib.Core.Logic.{◌⊎◌, inl, inr}
 use native.Mathlib.Omega.{arith}
 use lib.ListN.{get_or, length, take, drop, length-append, length-drop, get_or-append}
 use lib.Seq.{get_or-append-add, get_or-take, get_or-drop, length-take-le, drop-drop}
@@ -11,7 +10,7 @@ use borrow.Rule.Slice.PartMut.{put_mid}
 use Rattle.words.specs.Word.{word_at}
 use Rattle.words.proofs.Laws.{word_by_bytes}
 use Rattle.words.proofs.Bytes.{Bytes, bytes_take, bytes_drop, bytes-append}
-use Rattle.mailboxes.specs.Mailbox.{mailbox, with_mailbox, word_layout}
+use Rattle.mailboxes.specs.Mailbox.{mailbox, with_mailbox}
 
 -- ---- the 16 bytes of mailbox n
 
@@ -89,16 +88,3 @@ unfolding mailbox with_mailbox
 lent s n write m e =
     let size : 16 * n + 16 - 16 * n ≡ 16 = omega arith in
     rw (e, size, drop-drop)
-
--- ---- a data word may be anything
-
-pub data_free : (k w : ℕ) → k ≢ 0 → k ≢ 1 → word_layout k w ≡ true
-data_free zero w a b = absurd (a refl)
-data_free (suc zero) w a b = absurd (b refl)
-data_free (suc (suc k)) w a b = refl
-
--- ---- a flag, or what only some frames add, is at most what it is where the test holds
-
-pub cond_le : (t : Bool) (a r : ℕ) → r ≡ cond t a 0 → r ≤ a
-cond_le true a r e = omega arith
-cond_le false a r e = omega arith

@@ -3,29 +3,28 @@ ghost use Rattle.std.specs.Prelude.{◌≡◌, ◌+◌, ◌*◌, ◌^◌, ◌<�
 ghost use Rattle.mailboxes.specs.Mailbox.{mailbox, with_mailbox};
 ghost use Rattle.mailboxes.specs.Filing.{highest_dlc, most_data_bytes, data_bytes, filed_identifier, filed_control, data_of, spliced as spliced_of, with_data, filed, stamped};
 
-use crate::Identifier;
+use crate::{IDENTIFIERS, Identifier, MAILBOX_BYTES};
 
 // The highest DLC of a frame, and the most data bytes that one carries.
 pub const HIGHEST_DLC: u32 = 15;
 
 const MOST_DATA_BYTES: u32 = 8;
 
+// Where the data words stand in a mailbox.
+const DATA_AT: usize = 8;
+
 // How many data bytes a frame brings.
 pub fn data_bytes(rtr: bool, dlc: u32) -> u32
     ensures { result ≡ data_bytes rtr dlc }
 {
-    bits::choose(
-        rtr,
-        0,
-        bits::choose(MOST_DATA_BYTES < dlc, MOST_DATA_BYTES, dlc),
-    )
+    bits::choose(rtr, 0, dlc.min(MOST_DATA_BYTES))
 }
 
 fn filed_identifier(old: u32, ide: bool, i: Identifier) -> u32
     requires { i.0 < 2 ^ 29 }
     ensures { result ≡ filed_identifier old ide i }
 {
-    bits::flag(ide, 31) + old / 536870912 % 4 * 536870912 + i.0
+    bits::flag(ide, 31) + old / IDENTIFIERS % 4 * IDENTIFIERS + i.0
 }
 
 fn filed_control(tsc: u32, rtr: bool, dlc: u32) -> u32
@@ -51,18 +50,17 @@ fn data_of(m: &[u8]) -> u64
     requires { length m.now ≡ 16 }
     ensures { result ≡ data_of m.now }
 {
-    words::word_at(m, 8) as u64 + 4294967296 * (words::word_at(m, 12) as u64)
+    words::long_at(m, DATA_AT)
 }
 
 fn put_data(m: &mut [u8], d: u64)
     requires { length m.old ≡ 16 }
     ensures { m.new ≡ with_data m.old d }
 {
-    words::put_word(m, 8, (d % 4294967296) as u32);
-    words::put_word(m, 12, (d / 4294967296) as u32);
+    words::put_long(m, DATA_AT, d)
 }
 
-// A frame into 16 lent bytes.
+// A frame into 16 lent bytes. stays: they are a slice, as a part of the image is lent; an array of it comes only behind an Option.
 fn file(m: &mut [u8], ide: bool, rtr: bool, i: Identifier, dlc: u32, bytes: u64, tsc: u32)
     requires { (length m.old ≡ 16) × (i.0 < 2 ^ 29) × (dlc ≤ highest_dlc) × (tsc < 65536) }
     ensures { m.new ≡ filed m.old ide rtr i dlc bytes tsc }
@@ -74,7 +72,7 @@ fn file(m: &mut [u8], ide: bool, rtr: bool, i: Identifier, dlc: u32, bytes: u64,
     put_data(m, d);
 }
 
-// A frame into mailbox n: its own part of the image is lent to the writer.
+// A frame into mailbox n: its own part of the image is lent to the writer. stays: the frame comes in parts, as `filed` has them.
 pub fn put_frame(
     s: &mut [u8],
     n: usize,
@@ -88,8 +86,8 @@ pub fn put_frame(
     requires { (16 * n + 16 ≤ length s.old) × (n < 32) × (i.0 < 2 ^ 29) × (dlc ≤ highest_dlc) × (tsc < 65536) }
     ensures { s.new ≡ with_mailbox s.old n (filed (mailbox s.old n) ide rtr i dlc bytes tsc) }
 {
-    let a = 16 * n;
-    let e = a + 16;
+    let a = MAILBOX_BYTES * n;
+    let e = a + MAILBOX_BYTES;
     file(&mut s[a..e], ide, rtr, i, dlc, bytes, tsc)
 }
 
@@ -107,7 +105,7 @@ pub fn put_stamp(s: &mut [u8], n: usize, tsc: u32)
     requires { (16 * n + 16 ≤ length s.old) × (n < 32) × (tsc < 65536) }
     ensures { s.new ≡ with_mailbox s.old n (stamped (mailbox s.old n) tsc) }
 {
-    let a = 16 * n;
-    let e = a + 16;
+    let a = MAILBOX_BYTES * n;
+    let e = a + MAILBOX_BYTES;
     stamp(&mut s[a..e], tsc)
 }

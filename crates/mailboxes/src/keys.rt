@@ -3,13 +3,13 @@ ghost use Rattle.std.specs.Prelude.{◌≡◌, ◌+◌, ◌<◌};
 ghost use Rattle.bits.specs.Bit.{flag};
 ghost use Rattle.mailboxes.specs.Arbitration.{identifier_of, key_of};
 
-use crate::{Identifier, Key};
+use crate::{EXTENSIONS, IDENTIFIERS, Identifier, Key};
 
 // The identifier in word 0 of a mailbox.
 pub fn identifier_of(w: u32) -> Identifier
     ensures { result ≡ identifier_of w }
 {
-    Identifier(w % 536870912)
+    Identifier(w % IDENTIFIERS)
 }
 
 // IDE and identifier, where word 0 of a mailbox has them.
@@ -24,7 +24,7 @@ pub fn word_of(i: Identifier, ide: bool) -> u32
 pub fn key_of(i: Identifier, ide: bool, rtr: bool) -> Key
     ensures { result ≡ key_of i ide rtr }
 {
-    let base = (i.0 / 262144 % 2048) * 2097152;
-    let rest = (i.0 % 262144) * 2 + bits::flag(rtr, 0);
+    let base = (i.0 / EXTENSIONS % 2048) * 2097152;
+    let rest = (i.0 % EXTENSIONS) * 2 + bits::flag(rtr, 0);
     Key(base + bits::flag(ide | rtr, 20) + bits::flag(ide, 19) + bits::choose(ide, rest, 0))
 }

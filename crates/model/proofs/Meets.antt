@@ -19,7 +19,7 @@ use Rattle.events.specs.declared.Frame.{Frame}
 use Rattle.filter.specs.declared.Delivery.{Delivery}
 use Rattle.filter.specs.declared.Delivery.TheVariants.{Into, Reply, Nowhere}
 use Rattle.filter.specs.Filter.{delivery}
-use Rattle.answers.specs.Answer.{packed}
+use Rattle.answers.specs.Answer.{no_mailbox, packed}
 use Rattle.model.specs.Step.{own, goes, remote, delivered, stowed, beside_after, named, named_by, count_of}
 use Rattle.model.specs.Parts.{Acted, Delivered}
 
@@ -77,22 +77,24 @@ unsettled x h = rw (eq-eqb x.waiting no_mode h)
 
 -- ---- the parts
 
-module _ (s : List ℕ) (b : Block) (l : b ≡ block_of s) where
-  -- an event that carries no frame: its own block, the bytes of the mailboxes, the mailbox that it names
-  pub acts : (e : Event) (next : Block) (boxes : List ℕ) (n : ℕ) {x : List ℕ} {r : ℕ}
-      → own s e ≡ next → goes s e ≡ Nowhere 0 → beside_after s e ≡ boxes → named s e ≡ n
-      → x ≡ put_block boxes (risen b next) → r ≡ packed 0 n 0 → Acted s e x r
-  unfolding delivered
-  acts e next boxes n o g m a p q =
-      record {
-        image =
-            p
-            ∙ sym
-            (ap₂ put_block m
-            (ap₂ risen (sym l) (ap₂ (λ (x : Block) (d : Delivery). delivered x (remote e) d) o g)));
-        answered = q ∙ sym (ap₂ (λ (k : ℕ) (d : Delivery). packed 0 k (count_of d)) a g);
-      }
+-- an event that carries no frame: the bytes of the mailboxes and the masks as they become, in y; the block that it makes; the mailbox that it names
+pub acts : (s : List ℕ) (e : Event) (y : List ℕ) (b : Block) (n : ℕ) {x : List ℕ} {r : ℕ}
+    → y ≡ beside_after s e → block_of y ≡ block_of s → b ≡ own s e → goes s e ≡ Nowhere 0 → n ≡ named s e
+    → x ≡ put_block y (risen (block_of y) b) → r ≡ packed 0 n 0 → Acted s e x r
+unfolding delivered
+acts s e y b n m l o g a p q =
+    record {
+      image = p ∙ ap₂ put_block m (ap₂ risen l (o ∙ sym (ap (λ (d : Delivery). delivered (own s e) (remote e) d) g)));
+      answered = q ∙ ap₂ (λ (k : ℕ) (d : Delivery). packed 0 k (count_of d)) a (sym g);
+    }
 
+-- an event e, known to be k, that changes the register block alone and names no mailbox
+pub turns : (s : List ℕ) (e k : Event) (b : Block) {x : List ℕ} {r : ℕ}
+    → e ≡ k → b ≡ own s k → goes s k ≡ Nowhere 0 → s ≡ beside_after s k → no_mailbox ≡ named s k
+    → x ≡ put_block s (risen (block_of s) b) → r ≡ packed 0 no_mailbox 0 → Acted s e x r
+turns s e k b h o g m a p q = rw h (acts s k s b no_mailbox m refl o g a p q)
+
+module _ (s : List ℕ) (b : Block) (l : b ≡ block_of s) where
   -- a frame, once it is known where it goes
   pub delivers : (f : Frame) (d : Delivery) {x : List ℕ} {r : ℕ}
       → x ≡ put_block (stowed s f d) (delivered (listened b) f.rtr d) → r ≡ packed 0 (named_by d) (count_of d) → Delivered s f d x r

@@ -4,24 +4,44 @@
 // and neither loads nor stores them.
 #![tactic(auto)]
 
-ghost use Rattle.std.specs.Prelude.{◌≡◌, cond, eqb, length, ◌<◌, ◌≤◌};
-ghost use Rattle.registers.specs.Block.{image_bytes, block_of, put_block, no_mode, empty_slot};
-ghost use Rattle.registers.specs.Modes.{settled};
-ghost use Rattle.events.specs.declared.Event.TheVariants.{Register, Mailbox, Heard, Start, Outcome, ReceiveError, Recessive, Tick, Mode, Options, Reset};
+ghost use Rattle.std.specs.Prelude.{◌≡◌, true, cond, eqb, ◌<◌, ◌≤◌};
+ghost use Rattle.std.specs.Option.{option_map_or};
+ghost use Rattle.registers.specs.declared.Block.{Block as BlockOf};
+ghost use Rattle.registers.specs.Block.{block_of, put_block, no_mode, empty_slot};
+ghost use Rattle.registers.specs.Modes.{risen, settled};
+ghost use Rattle.registers.specs.Sending.{started};
+ghost use Rattle.events.specs.declared.Event.TheVariants.{Register, Mailbox, Heard, Start, Outcome, Reset};
+ghost use Rattle.good.specs.Good.{good_image};
 ghost use Rattle.filter.specs.declared.Delivery.TheVariants.{Into, Reply, Nowhere};
-ghost use Rattle.answers.specs.Answer.{Promise};
-ghost use Rattle.model.specs.Step.{started_with, masked, unmasked, postmarked, step as step_of};
+ghost use Rattle.answers.specs.Answer.{packed, Promise};
+ghost use Rattle.model.specs.Step.{masked, unmasked, postmarked, step as step_of};
 ghost use Rattle.model.specs.Parts.{Loaded, Sized, Fit, Acted, Delivered};
 
+use answers::{NO_MAILBOX, Refusal};
 use events::{Event, Frame};
 use filter::Delivery;
-use registers::Block;
+use registers::{Block, IMAGE_BYTES, Image};
+
+// ---- the register block
+
+// The block becomes what f makes of it, then the flags rise whose condition begins to hold. The answer names a mailbox, or NO_MAILBOX:
+// stays a number, as C has it in its answer.
+fn change<F: FnOnce(Block) -> Block>(image: &mut Image, mailbox: u32, f: F) -> u64
+    requires { F.pre f (block_of image.old) }
+    ensures block { (b : BlockOf) × F.post f (block_of image.old) b × (image.new ≡ put_block image.old (risen (block_of image.old) b)) }
+    ensures answered { result ≡ packed 0 mailbox 0 }
+{
+    let b = Block::load(image);
+    f(b).rise(b).store(image);
+    answers::pack(0, mailbox, 0)
+}
 
 // ---- writes
 
 // A mask of an eCAN; no other register stands there.
-fn put_mask(image: &mut [u8], t: u32, v: u32)
-    requires { length image.old ≡ image_bytes }
+// stays: t as a number, and v, as the event has them; the tests joined by `&`, one branch
+#[tactic(auto, unfolding(crate::specs::Step::masked))]
+fn put_mask(image: &mut Image, t: u32, v: u32)
     ensures { image.new ≡ masked image.old t v }
 {
     if (64 <= t) & (t <= 95) {
@@ -29,32 +49,32 @@ fn put_mask(image: &mut [u8], t: u32, v: u32)
     }
 }
 
-fn write_register(image: &mut [u8], t: u32, v: u32) -> u64
-    requires { Loaded image.old }
+// Register t written with v; of an eCAN's masks the block has none.
+fn write_register(image: &mut Image, t: u32, v: u32) -> u64
+    requires { (block_of image.old).slot ≤ empty_slot }
     ensures { Acted image.old (Register t v) image.new result }
 {
     put_mask(image, t, v);
-    let b = Block::load(image);
-    b.write(t, v).rise(b).store(image);
-    answers::pack(0, 32, 0)
+    change(image, NO_MAILBOX, |b| b.write(t, v))
 }
 
-fn write_mailbox(image: &mut [u8], n: u32, k: u32, v: u32) -> u64
-    requires { (Loaded image.old) × (n < 32) × (k < 4) }
+// Word k of mailbox n written with v; the block is put back as it was.
+fn write_mailbox(image: &mut Image, n: u32, k: u32, v: u32) -> u64
+    requires { (n < 32) × (k < 4) }
     ensures { Acted image.old (Mailbox n k v) image.new result }
 {
     mailboxes::put_word(image, n as usize, k as usize, v);
-    let b = Block::load(image);
-    b.rise(b).store(image);
-    answers::pack(0, 32, 0)
+    change(image, NO_MAILBOX, |b| b)
 }
 
 // ---- frames: REC can only fall, so no flag rises
+//
+// stays: these three do not go through `change`, since none of them has to ask for the flags of bus off, passive and warning
 
 // A frame that is stored in mailbox n. The block is loaded behind the mailbox's bytes: any write into the image might, for the
 // compiler, change it.
-fn store(image: &mut [u8], f: Frame, n: u32, count: u32) -> u64
-    requires { (Loaded image.old) × (Fit f) × (n < 32) }
+fn store(image: &mut Image, f: Frame, n: u32, count: u32) -> u64
+    requires { ((block_of image.old).tsc < 65536) × (Fit f) × (n < 32) }
     ensures { Delivered image.old f (Into n count) image.new result }
 {
     let stamp = Block::load(image).tsc;
@@ -64,8 +84,8 @@ fn store(image: &mut [u8], f: Frame, n: u32, count: u32) -> u64
 }
 
 // A frame that asks mailbox n for a reply.
-fn reply(image: &mut [u8], f: Frame, n: u32, count: u32) -> u64
-    requires { (Loaded image.old) × (n < 32) }
+fn reply(image: &mut Image, f: Frame, n: u32, count: u32) -> u64
+    requires { n < 32 }
     ensures { Delivered image.old f (Reply n count) image.new result }
 {
     Block::load(image).listen().reply(n).store(image);
@@ -73,19 +93,20 @@ fn reply(image: &mut [u8], f: Frame, n: u32, count: u32) -> u64
 }
 
 // A frame that goes nowhere.
-fn miss(image: &mut [u8], f: Frame, count: u32) -> u64
-    requires { Loaded image.old }
+fn miss(image: &mut Image, f: Frame, count: u32) -> u64
     ensures { Delivered image.old f (Nowhere count) image.new result }
 {
     Block::load(image).listen().store(image);
-    answers::pack(0, 32, count)
+    answers::pack(0, NO_MAILBOX, count)
 }
 
-fn hear(image: &mut [u8], f: Frame) -> u64
-    requires { (Loaded image.old) × (Fit f) }
+// A frame goes where the search says.
+// stays: the range of TSC in three contracts; each speaks of the image before its own first write, and a type would end there
+fn hear(image: &mut Image, f: Frame) -> u64
+    requires { ((block_of image.old).tsc < 65536) × (Fit f) }
     ensures { Acted image.old (Heard f) image.new result }
 {
-    let d = filter::deliver(image, Block::load(image), f);
+    let d = filter::deliver(registers::Loaded::load(image), f);
     match d {
         Delivery::Into { mailbox, count } => store(image, f, mailbox, count),
         Delivery::Reply { mailbox, count } => reply(image, f, mailbox, count),
@@ -95,26 +116,29 @@ fn hear(image: &mut [u8], f: Frame) -> u64
 
 // ---- sending
 
-// What was found goes into the slot.
-fn started_with(b: Block, n: u32) -> Block
-    ensures { result ≡ started_with b n }
+// What was found goes into the slot; nothing found changes nothing.
+fn started_with(b: Block, n: Option<u32>) -> Block
+    ensures { result ≡ option_map_or (started b) n b }
 {
-    if n < 32 { b.start(n) } else { b }
+    match n {
+        Some(n) => b.start(n),
+        None => b,
+    }
 }
 
-fn start(image: &mut [u8]) -> u64
-    requires { Loaded image.old }
+// What is sent next; 32 where nothing is.
+fn start(image: &mut Image) -> u64
     ensures { Acted image.old Start image.new result }
 {
-    let n = sending::next(image, Block::load(image));
-    let b = Block::load(image);
-    started_with(b, n).rise(b).store(image);
-    answers::pack(0, n, 0)
+    let n = sending::next(registers::Loaded::load(image));
+    change(image, n.unwrap_or(NO_MAILBOX), |b| started_with(b, n))
 }
 
-// The time stamp of a frame that was sent.
-fn postmark(image: &mut [u8], kind: u32)
-    requires { (Loaded image.old) × ((block_of image.old).slot < 32) }
+// The time stamp of a frame that was sent, which is kind 0.
+// stays: kind as a number, as the event has it
+#[tactic(auto, unfolding(crate::specs::Step::postmarked))]
+fn postmark(image: &mut Image, kind: u32)
+    requires { ((block_of image.old).tsc < 65536) × ((block_of image.old).slot < 32) }
     ensures { image.new ≡ cond (eqb kind 0) (postmarked image.old) image.old }
 {
     if kind == 0 {
@@ -123,93 +147,45 @@ fn postmark(image: &mut [u8], kind: u32)
     }
 }
 
-fn conclude(image: &mut [u8], kind: u32) -> u64
+// What an outcome does, and the mailbox that was in the slot.
+fn conclude(image: &mut Image, kind: u32) -> u64
     requires { (Loaded image.old) × ((block_of image.old).slot < 32) }
     ensures { Acted image.old (Outcome kind) image.new result }
 {
     postmark(image, kind);
-    let b = Block::load(image);
-    b.conclude(kind).rise(b).store(image);
-    answers::pack(0, b.slot, 0)
+    let slot = Block::load(image).slot;
+    change(image, slot, |b| b.conclude(kind))
 }
 
-// ---- errors, time, modes
+// ---- reset
 
-fn worsen(image: &mut [u8], v: u32) -> u64
-    requires { (Loaded image.old) × (v ≤ 8) }
-    ensures { Acted image.old (ReceiveError v) image.new result }
-{
-    let b = Block::load(image);
-    b.worsen(v).rise(b).store(image);
-    answers::pack(0, 32, 0)
-}
-
-fn recess(image: &mut [u8]) -> u64
-    requires { Loaded image.old }
-    ensures { Acted image.old Recessive image.new result }
-{
-    let b = Block::load(image);
-    b.recess().rise(b).store(image);
-    answers::pack(0, 32, 0)
-}
-
-fn tick(image: &mut [u8]) -> u64
-    requires { Loaded image.old }
-    ensures { Acted image.old Tick image.new result }
-{
-    let b = Block::load(image);
-    b.tick().rise(b).store(image);
-    answers::pack(0, 32, 0)
-}
-
-fn ask(image: &mut [u8], m: u32) -> u64
-    requires { Loaded image.old }
-    ensures { Acted image.old (Mode m) image.new result }
-{
-    let b = Block::load(image);
-    b.ask(m).rise(b).store(image);
-    answers::pack(0, 32, 0)
-}
-
-fn choose_options(image: &mut [u8], v: u32) -> u64
-    requires { Loaded image.old }
-    ensures { Acted image.old (Options v) image.new result }
-{
-    let b = Block::load(image);
-    b.with_options(v).rise(b).store(image);
-    answers::pack(0, 32, 0)
-}
-
-fn clear_masks(image: &mut [u8])
-    requires { length image.old ≡ image_bytes }
+// Every mask is zero again.
+// stays: word by word, as the definition `unmasked` puts them; `fill` would say the same of 128 bytes
+fn clear_masks(image: &mut Image)
     ensures { image.new ≡ unmasked image.old }
 {
-    let mut n: usize = 0;
-    while n < 32 {
+    for n in 0..32 {
         words::put_word(image, registers::MASKS_AT + 4 * n, 0);
-        n += 1;
     }
 }
 
-fn reset(image: &mut [u8]) -> u64
-    requires { Loaded image.old }
+// Masks and registers as those of a fresh model; the profile stays.
+fn reset(image: &mut Image) -> u64
     ensures { Acted image.old Reset image.new result }
 {
     clear_masks(image);
-    let b = Block::load(image);
-    fresh::fresh_block(b.profile).rise(b).store(image);
-    answers::pack(0, 32, 0)
+    change(image, NO_MAILBOX, |b| fresh::fresh_block(b.profile))
 }
 
 // ---- the whole
 
-// What an accepted event does, up to the end of the step. A refusal is none.
-fn act(image: &mut [u8], e: Event) -> u64
+// What an accepted event does, up to the end of the step. A refusal is none. stays a match: each operation has a line here, as in document 01's table.
+fn act(image: &mut Image, e: Event) -> u64
     requires { (Loaded image.old) × (Sized image.old e) }
     ensures { Acted image.old e image.new result }
 {
     match e {
-        Event::Refused { number } => answers::pack(number, 32, 0),
+        Event::Refused { .. } => unreachable!(),
         Event::Register { target, value } => write_register(image, target, value),
         Event::Mailbox {
             target,
@@ -219,18 +195,18 @@ fn act(image: &mut [u8], e: Event) -> u64
         Event::Heard { frame } => hear(image, frame),
         Event::Start => start(image),
         Event::Outcome { kind } => conclude(image, kind),
-        Event::ReceiveError { value } => worsen(image, value),
-        Event::Recessive => recess(image),
-        Event::Tick => tick(image),
-        Event::Mode { value } => ask(image, value),
-        Event::Options { value } => choose_options(image, value),
+        Event::ReceiveError { value } => change(image, NO_MAILBOX, |b| b.worsen(value)),
+        Event::Recessive => change(image, NO_MAILBOX, |b| b.recess()),
+        Event::Tick => change(image, NO_MAILBOX, |b| b.tick()),
+        Event::Mode { value } => change(image, NO_MAILBOX, |b| b.ask(value)),
+        Event::Options { value } => change(image, NO_MAILBOX, |b| b.with_options(value)),
         Event::Reset => reset(image),
     }
 }
 
 // The end of every accepted step: a mode that waits is taken, if it can be.
-fn settle(image: &mut [u8])
-    requires { length image.old ≡ image_bytes }
+// stays: 4 for none, since it is word 23 of the image
+fn settle(image: &mut Image)
     ensures { image.new ≡ cond (eqb (block_of image.old).waiting no_mode) image.old (put_block image.old (settled (block_of image.old))) }
 {
     let b = Block::load(image);
@@ -239,20 +215,32 @@ fn settle(image: &mut [u8])
     }
 }
 
+// A good image, any event bytes.
+fn take(image: &mut Image, event: &[u8]) -> u64
+    requires { good_image image.old ≡ true }
+    ensures { Promise (step_of image.old event.now) image.new result }
+{
+    let m = registers::Loaded::load(image);
+    let e = events::decode(m.block.is_asleep(), m.block.is_ecan(), event);
+    let refusal = refusals::remaining_refusal(m, e);
+    // stays: a number, as `remaining_refusal` gives it
+    if refusal != 0 {
+        return answers::pack(refusal, NO_MAILBOX, 0);
+    }
+    let answer = act(image, e);
+    settle(image);
+    answer
+}
+
 // Any bytes, any event bytes.
 pub fn step(image: &mut [u8], event: &[u8]) -> u64
     ensures { Promise (step_of image.old event.now) image.new result }
 {
     if !good::good_image(image) {
-        return answers::pack(1, 32, 0);
+        return answers::refuse(Refusal::NoModel);
     }
-    let b = Block::load(image);
-    let e = events::decode(b.is_asleep(), b.is_ecan(), event);
-    let refusal = refusals::remaining_refusal(image, b, e);
-    if refusal != 0 {
-        return answers::pack(refusal, 32, 0);
-    }
-    let answer = act(image, e);
-    settle(image);
-    answer
+    let Some(image) = image.as_mut_array::<IMAGE_BYTES>() else {
+        unreachable!()
+    };
+    take(image, event)
 }

@@ -3,18 +3,20 @@
 
 mod gsr;
 
-ghost use Rattle.std.specs.Prelude.{◌≡◌, true, ◌≤◌};
-ghost use Rattle.registers.specs.Block.{block_of};
+ghost use Rattle.std.specs.Prelude.{◌≡◌, true, ◌≤◌, MatchResult};
 ghost use Rattle.registers.specs.Status.{ecan};
 ghost use Rattle.good.specs.Good.{good_image};
-ghost use Rattle.answers.specs.Answer.{ReadPromise};
+ghost use Rattle.answers.specs.Answer.{ReadPromise, unread};
+ghost use Rattle.answers.specs.Refusals.{number_of};
 ghost use Rattle.reading.specs.Read.{readable, place_of, sleeping_value, value as value_of, read as read_of};
 
-use registers::Block;
+use answers::Refusal;
+use registers::Loaded;
 
 const GSR: u32 = 32;
 
 // May this register be read?
+// stays: a register is its number, since any number comes in by frostsorrel_read, and its place in the image is computed from it.
 fn is_readable(ecan: bool, number: u32) -> bool
     ensures { result ≡ readable ecan number }
 {
@@ -41,29 +43,38 @@ fn sleeping_value(number: u32) -> u32
 }
 
 // What a register reads in a good image.
-fn value(image: &[u8], number: u32) -> u32
-    requires { (good_image image.now ≡ true) × (readable (ecan (block_of image.now)) number ≡ true) }
-    ensures { result ≡ value_of image.now number }
+fn value(m: Loaded, number: u32) -> u32
+    requires { (good_image m.image.now ≡ true) × (readable (ecan m.block) number ≡ true) }
+    ensures { result ≡ value_of m.entry.image.now number }
 {
-    let b = Block::load(image);
-    if b.is_asleep() {
+    if m.block.is_asleep() {
         return sleeping_value(number);
     }
     if number == GSR {
-        return gsr::gsr(b);
+        return gsr::gsr(m.block);
     }
+    let image = m.image;
     words::word_at(image, place(number))
+}
+
+// Any bytes, any number: the value, or why there is none.
+fn value_or_why(image: &[u8], number: u32) -> Result<u32, Refusal>
+    ensures { MatchResult result (λ v. read_of image.now number ≡ record { refusal = 0; value = v }) (λ why. read_of image.now number ≡ unread (number_of why)) }
+{
+    let image = good::as_good_image(image).ok_or(Refusal::NoModel)?;
+    let m = Loaded::load(image);
+    if !is_readable(m.block.is_ecan(), number) {
+        return Err(Refusal::Unknown);
+    }
+    Ok(value(m, number))
 }
 
 // Any bytes, any number: value and refusal, packed.
 pub fn read(image: &[u8], number: u32) -> u64
     ensures { ReadPromise (read_of image.now number) result }
 {
-    if !good::good_image(image) {
-        return answers::pack_reading(1, 0);
+    match value_or_why(image, number) {
+        Ok(v) => answers::pack_reading(0, v),
+        Err(why) => answers::pack_reading(why.number() as u8, 0),
     }
-    if !is_readable(Block::load(image).is_ecan(), number) {
-        return answers::pack_reading(2, 0);
-    }
-    answers::pack_reading(0, value(image, number))
 }

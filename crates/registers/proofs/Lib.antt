@@ -2,3 +2,4 @@
 pub mod Laws
 pub mod Table
 pub mod Flags
+pub mod Counters

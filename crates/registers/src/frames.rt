@@ -1,21 +1,14 @@
 // What a frame does to the block.
-ghost use Rattle.std.specs.Prelude.{◌≡◌, ◌<◌, ◌-◌};
+ghost use Rattle.std.specs.Prelude.{◌≡◌, ◌<◌};
 ghost use Rattle.registers.specs.Frames.{fallen as fallen_of, wakened, listened, stored, replied};
 
-use crate::Block;
-
-// x less one, where there is one.
-pub fn less_one(x: u32) -> u32
-    ensures { result ≡ x - 1 }
-{
-    if x == 0 { 0 } else { x - 1 }
-}
+use crate::{Block, NORMAL};
 
 // REC after a heard frame.
 fn fallen(r: u32) -> u32
     ensures { result ≡ fallen_of r }
 {
-    bits::choose(127 < r, 127, less_one(r))
+    bits::choose(127 < r, 127, r.saturating_sub(1))
 }
 
 impl Block {
@@ -31,7 +24,7 @@ impl Block {
     {
         let wakes = self.is_wakened();
         self.rec = bits::choose(self.is_on_bus(), fallen(self.rec), self.rec);
-        self.mode = bits::choose(wakes, 0, self.mode);
+        self.mode = bits::choose(wakes, NORMAL, self.mode);
         self.gif = self.gif | bits::flag(wakes, 6);
         self
     }

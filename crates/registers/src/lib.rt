@@ -7,10 +7,13 @@ mod sending;
 mod status;
 mod writes;
 
-ghost use Rattle.std.specs.Prelude.{◌≡◌, length};
-ghost use Rattle.registers.specs.Block.{image_bytes, of_parts, first_words, block_of, put_block};
+ghost use Rattle.std.specs.Prelude.{◌≡◌};
+ghost use Rattle.registers.specs.Block.{of_parts, first_words, block_of, put_block};
 
 pub const IMAGE_BYTES: usize = 776;
+
+// The bytes of a model.
+pub type Image = [u8; IMAGE_BYTES];
 
 pub const REGISTERS_AT: usize = 512;
 
@@ -28,6 +31,16 @@ pub const E_CAN: u32 = 1;
 
 // The slot when no mailbox is being sent.
 pub const EMPTY_SLOT: u32 = 32;
+
+// Two of the modes, and what waits when none does. They stay numbers: a block is made of any image, and its words may be anything.
+pub const NORMAL: u32 = 0;
+
+pub const SLEEP: u32 = 2;
+
+pub const NO_MODE: u32 = 4;
+
+// The transmit error counter that means bus off.
+pub const BUS_OFF_AT: u32 = 256;
 
 // A field for each of the words 0 to 27, and for the two at the end of the image; the words 28 to 31 are no part of the block.
 #[derive(Clone, Copy)]
@@ -94,7 +107,28 @@ pub struct Block {
     pub profile: u32,
 }
 
+// An image that is only read, with its block beside it, loaded once.
+#[derive(Clone, Copy)]
+pub struct Loaded<'a> {
+    pub image: &'a Image,
+    pub block: Block,
+    ghost of_image: { block ≡ block_of image.now },
+}
+
+impl<'a> Loaded<'a> {
+    // The image and the block that is in it.
+    pub fn load(image: &'a Image) -> Loaded<'a>
+        ensures { result.image.now ≡ image.now }
+    {
+        Loaded {
+            image,
+            block: Block::load(image),
+        }
+    }
+}
+
 impl Block {
+    // stays a function, and no From: a block is made of three parts, and the words that it gives back leave two of them out
     fn from_words(row: [u32; 28], protection: u32, profile: u32) -> Block
         ensures { result ≡ of_parts row protection profile }
     {
@@ -168,8 +202,7 @@ impl Block {
     }
 
     // The block of an image.
-    pub fn load(s: &[u8]) -> Block
-        requires { length s.now ≡ image_bytes }
+    pub fn load(s: &Image) -> Block
         ensures { result ≡ block_of s.now }
     {
         let row = words::load_words(s, REGISTERS_AT);
@@ -181,8 +214,7 @@ impl Block {
     }
 
     // The block put into an image; no byte of a mailbox moves, and no spare word.
-    pub fn store(self, s: &mut [u8])
-        requires { length s.old ≡ image_bytes }
+    pub fn store(self, s: &mut Image)
         ensures { s.new ≡ put_block s.old self }
     {
         words::put_words(s, REGISTERS_AT, self.to_words());

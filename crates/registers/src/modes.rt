@@ -1,22 +1,15 @@
 // Counters, modes, ticks.
 ghost use Rattle.std.specs.Prelude.{◌≡◌, ◌<◌, ◌≤◌};
-ghost use Rattle.registers.specs.Modes.{at_most, on_bus, overflows, ticked as ticked_of, worsened as worsened_of, recovers, recessive as recessive_of, optioned, asked, risen as risen_of, ready, entered, settled as settled_of};
+ghost use Rattle.registers.specs.Modes.{on_bus, overflows, ticked as ticked_of, worsened as worsened_of, recovers, recessive as recessive_of, optioned, asked, risen as risen_of, ready, entered, settled as settled_of};
 
-use crate::Block;
-
-// x, or k where x is above it.
-pub fn at_most(k: u32, x: u32) -> u32
-    ensures { result ≡ at_most k x }
-{
-    bits::choose(k < x, k, x)
-}
+use crate::{BUS_OFF_AT, Block, NO_MODE, NORMAL, SLEEP};
 
 impl Block {
     // Does the unit take part on the bus?
     pub fn is_on_bus(self) -> bool
         ensures { result ≡ on_bus self }
     {
-        (self.mode == 0) & (self.tec < 256)
+        (self.mode == NORMAL) & (self.tec < BUS_OFF_AT)
     }
 
     fn is_overflowing(self) -> bool
@@ -42,7 +35,7 @@ impl Block {
         requires { (self.rec ≤ 255) × (v ≤ 8) }
         ensures { result ≡ worsened_of self v }
     {
-        self.rec = bits::choose(self.is_on_bus(), at_most(255, self.rec + v), self.rec);
+        self.rec = bits::choose(self.is_on_bus(), (self.rec + v).min(255), self.rec);
         self
     }
 
@@ -76,7 +69,7 @@ impl Block {
     pub fn ask(mut self, m: u32) -> Block
         ensures { result ≡ asked self m }
     {
-        self.waiting = bits::choose(m == self.mode, 4, m);
+        self.waiting = bits::choose(m == self.mode, NO_MODE, m);
         self
     }
 
@@ -94,22 +87,22 @@ impl Block {
     fn is_ready(self) -> bool
         ensures { result ≡ ready self }
     {
-        !(self.waiting == 4) & (self.is_vacant() & (self.tec < 256))
+        !(self.waiting == NO_MODE) & (self.is_vacant() & (self.tec < BUS_OFF_AT))
     }
 
     // The waiting mode is taken.
     fn enter(mut self) -> Block
         ensures { result ≡ entered self }
     {
-        let sleeps = self.waiting == 2;
-        let wakes = self.is_asleep() & (self.waiting == 0);
+        let sleeps = self.waiting == SLEEP;
+        let wakes = self.is_asleep() & (self.waiting == NORMAL);
         self.trs = bits::choose(sleeps, 0, self.trs);
         self.trr = bits::choose(sleeps, 0, self.trr);
         self.tec = bits::choose(sleeps, 0, self.tec);
         self.rec = bits::choose(sleeps, 0, self.rec);
         self.gif = self.gif | bits::flag(wakes, 6);
         self.mode = self.waiting;
-        self.waiting = 4;
+        self.waiting = NO_MODE;
         self
     }
 

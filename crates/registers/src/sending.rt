@@ -3,9 +3,7 @@ ghost use Rattle.std.specs.Prelude.{◌≡◌, ◌≤◌};
 ghost use Rattle.registers.specs.Block.{empty_slot};
 ghost use Rattle.registers.specs.Sending.{eligible as eligible_of, started, sent, failed, added as added_by, concluded};
 
-use crate::frames::less_one;
-use crate::modes::at_most;
-use crate::{Block, EMPTY_SLOT};
+use crate::{BUS_OFF_AT, Block, EMPTY_SLOT};
 
 impl Block {
     // The mailboxes that may start.
@@ -33,7 +31,7 @@ impl Block {
         self.trr = bits::without(self.trr, x);
         self.ta = self.ta | x;
         self.mbtif = self.mbtif | (self.mbim & x);
-        self.tec = less_one(self.tec);
+        self.tec = self.tec.saturating_sub(1);
         self.slot = EMPTY_SLOT;
         self
     }
@@ -48,7 +46,7 @@ impl Block {
         self.trr = bits::without(self.trr, x);
         self.aa = self.aa | x;
         self.gif = self.gif | bits::flag(x != 0, 4);
-        self.tec = at_most(256, self.tec + more);
+        self.tec = (self.tec + more).min(BUS_OFF_AT);
         self.slot = EMPTY_SLOT;
         self
     }
@@ -60,7 +58,7 @@ impl Block {
         bits::choose((kind == 2) | ((kind == 3) & !self.is_passive()), 8, 0)
     }
 
-    // What an outcome does: 0 is sent.
+    // What an outcome does: 0 is sent. The outcomes stay numbers, as `concluded` has them: the events bring them.
     pub fn conclude(self, kind: u32) -> Block
         requires { (self.slot ≤ empty_slot) × (self.tec ≤ 256) }
         ensures { result ≡ concluded self kind }

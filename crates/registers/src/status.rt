@@ -2,7 +2,7 @@
 ghost use Rattle.std.specs.Prelude.{◌≡◌};
 ghost use Rattle.registers.specs.Status.{vacant, ecan, asleep, bus_off, passive, warning};
 
-use crate::{Block, E_CAN, EMPTY_SLOT};
+use crate::{BUS_OFF_AT, Block, E_CAN, EMPTY_SLOT, SLEEP};
 
 impl Block {
     // Is no mailbox in the slot?
@@ -21,13 +21,13 @@ impl Block {
     pub fn is_asleep(self) -> bool
         ensures { result ≡ asleep self }
     {
-        self.mode == 2
+        self.mode == SLEEP
     }
 
     pub fn is_bus_off(self) -> bool
         ensures { result ≡ bus_off self }
     {
-        self.tec == 256
+        self.tec == BUS_OFF_AT
     }
 
     pub fn is_passive(self) -> bool

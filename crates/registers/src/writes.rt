@@ -6,7 +6,8 @@ ghost use Rattle.registers.specs.Writes.{slot_mask, direction as direction_of, r
 use crate::Block;
 
 impl Block {
-    // The mailbox in the slot as a flag word.
+    // The mailbox in the slot as a flag word. That the slot is one of 33 stays a clause, here and below: `Block::load` makes a block of any image,
+    // and `good_slot` has to ask it of a bad one.
     pub fn slot_mask(self) -> u32
         requires { self.slot ≤ empty_slot }
         ensures { result ≡ slot_mask self }
@@ -66,7 +67,8 @@ impl Block {
         self
     }
 
-    // Register t written with v, as a table: the value is taken, or a 1 clears, or one of the rules above.
+    // Register t written with v, as a table: the value is taken, or a 1 clears, or one of the rules above. The registers stay numbers, as
+    // `written` has them: firmware may write any.
     pub fn write(mut self, t: u32, v: u32) -> Block
         requires { self.slot ≤ empty_slot }
         ensures { result ≡ written_of self t v }

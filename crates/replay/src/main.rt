@@ -2,7 +2,7 @@
 // cannot be opened or read gets a message on standard error, and nothing is printed.
 #![tactic(auto)]
 
-ghost use Rattle.std.specs.Prelude.{◌≡◌, ◌≤◌, length, take};
+ghost use Rattle.std.specs.Prelude.{◌≡◌, ◌≤◌, length, take, IfOk};
 ghost use Rattle.trace.specs.Trace.{listing, longest};
 ghost use Rattle.io.specs.Counts.{IsPrefixLen};
 
@@ -11,47 +11,20 @@ use std::fmt::Display;
 use std::io::Read;
 use std::{fs, io};
 
-// How many bytes were read, and the failure that ended the reading before the end, if there was one.
-#[derive(Drop)]
-struct Got {
-    count: usize,
-    failure: Option<io::Error>,
-}
-
-// One read. Nothing is read at the end.
-fn read_some<R: Read>(from: &mut R, part: &mut [u8]) -> Got
-    ensures { result.count ≤ length part.old }
+// Reads until the end or a full buffer, and says how many bytes that were; or the failure that ended the reading.
+fn read_all<R: Read>(from: &mut R, buf: &mut [u8]) -> io::Result<usize>
+    ensures { IfOk result (λ n. IsPrefixLen n buf.new) }
 {
-    match from.read(part) {
-        Ok(count) => Got {
-            count,
-            failure: None,
-        },
-        Err(failure) => Got {
-            count: 0,
-            failure: Some(failure),
-        },
-    }
-}
-
-// Reads until the end, a failure, or a full buffer.
-fn read_all<R: Read>(from: &mut R, buf: &mut [u8]) -> Got
-    ensures { IsPrefixLen result.count buf.new }
-{
-    let mut done: usize = 0;
-    let mut failure = None;
+    // stays a loop that counts: std's read_exact fails at an early end and does not say how far it came; read_to_end needs the heap.
+    let mut done = 0;
     while done < buf.len() {
-        let more = read_some(from, &mut buf[done..]);
-        failure = more.failure;
-        if more.count == 0 {
+        let more = from.read(&mut buf[done..])?;
+        if more == 0 {
             break;
         }
-        done += more.count;
+        done += more;
     }
-    Got {
-        count: done,
-        failure,
-    }
+    Ok(done)
 }
 
 // The listing of a file's bytes, at the front of bytes that have room for any; how many it has.
@@ -68,31 +41,25 @@ fn complain<D: Display + Drop>(rt: &HostRuntime, name: &str, why: D) -> io::Resu
 
 // The listing of a file's bytes, on standard output.
 fn show(rt: &HostRuntime, file: &[u8]) -> io::Result<()> {
-    let mut out = [0u8; 39033];
+    // stays: bytes of a fixed length, here and below, since the program has no heap
+    let mut out = [0u8; trace::LONGEST];
     let n = list(file, &mut out);
-    match rt.write_all(&out[..n]) {
-        Ok(()) => Ok(()),
-        Err(why) => complain(rt, "standard output", why),
-    }
+    rt.write_all(&out[..n])
+        .or_else(|why| complain(rt, "standard output", why))
 }
 
 // One byte more than the longest trace: of a longer file nothing else matters, since it is refused.
 fn replay<R: Read>(rt: &HostRuntime, from: &mut R, name: &str) -> io::Result<()> {
     let mut file = [0u8; 48007];
-    let got = read_all(from, &mut file);
-    if let Some(why) = got.failure {
-        return complain(rt, name, why);
+    match read_all(from, &mut file) {
+        Ok(n) => show(rt, &file[..n]),
+        Err(why) => complain(rt, name, why),
     }
-    let n = got.count;
-    show(rt, &file[..n])
 }
 
 fn replay_file(rt: &HostRuntime, name: &str) -> io::Result<()> {
     match fs::open(rt, name) {
-        Ok(file) => {
-            let mut file = file;
-            replay(rt, &mut file, name)
-        }
+        Ok(mut file) => replay(rt, &mut file, name),
         Err(why) => complain(rt, name, why),
     }
 }

@@ -1,4 +1,5 @@
 -- A file is a trace by the rule exactly where the product's test says so, and its events are those that the product reads.
+use Rattle.std.proofs.lemmas.Bool.{and_from}
 use Prim.Native.Nat.{ℕ, zero, suc, ◌+◌, ◌*◌, ◌/◌, ◌%◌, ◌<◌, ◌≤◌}
 use mathlib.Core.Path.{◌≡◌, refl, sym, ◌∙◌, ap, ap₂}
 use mathlib.Core.Bool.{Bool, true, ◌&&◌, ◌||◌, or-false}
@@ -9,7 +10,7 @@ use lib.Dec.{eqb, leb}
 use lib.ListN.{length, get_or, take, drop, length-append, length-drop, take-append-drop, get_or-append}
 use lib.Seq.{length-take-le, drop-length, drop-cons, drop-drop, take_at, drop_at, get_or-take, get_or-drop}
 use borrow.Author.Tests.{eq-eqb, leb-true, le-leb}
-use Rattle.bits.proofs.Sets.{and_l, and_r, both}
+use Rattle.bits.proofs.Sets.{and_l, and_r}
 use Rattle.words.proofs.Bytes.{Bytes}
 use Rattle.trace.specs.Trace.{count_at, end_of, second, third, takes, placed, sound, well_formed, events_from, section, events}
 use Rattle.trace.proofs.Runs.{formed, length-events, first_in, second_in, third_in}
@@ -71,7 +72,7 @@ module _ (k : ℕ) (ok : ℕ → Bool) (same : (op : ℕ) → takes k op ≡ ok 
       let r = read es (at + 16) rest next (λ n m. l (suc n) (omega arith)) (λ n m. p (suc n) (omega arith)) in
       record {
         found = ap₂ (λ (x : List ℕ) (y : List (List ℕ)). x ∷ y) (ap (take 16) d ∙ take_at e tail 16 z) r.found;
-        fits = both (takes k (get_or f at 0)) (placed k f (at + 16) (length es)) (ap (takes k) op ∙ same (operation e) ∙ p 0 (omega arith)) r.fits;
+        fits = and_from (takes k (get_or f at 0)) (placed k f (at + 16) (length es)) (ap (takes k) op ∙ same (operation e) ∙ p 0 (omega arith)) r.fits;
         behind = at_place f (at + 16 * length (e ∷ es)) (at + 16 + 16 * length es) (omega arith) ∙ r.behind;
       }
 
@@ -93,7 +94,7 @@ module _ (k : ℕ) (ok : ℕ → Bool) (same : (op : ℕ) → takes k op ≡ ok 
       let q = ap length h in
       record {
         is_sound =
-            both (leb (count_at f at) 1000) (placed k f (at + 2) (count_at f at)) (le-leb (count_at f at) 1000 (omega (arith, s.most)))
+            and_from (leb (count_at f at) 1000) (placed k f (at + 2) (count_at f at)) (le-leb (count_at f at) 1000 (omega (arith, s.most)))
             (ap (placed k f (at + 2)) c ∙ r.fits);
         found = ap (events_from f (at + 2)) c ∙ r.found;
         behind = at_place f (end_of f at) (at + 2 + 16 * n) (omega arith) ∙ r.behind;
@@ -198,7 +199,7 @@ trace_formed f a b c t =
     let y = sound 2 f (second f) in
     let z = sound 3 f (third f) in
     let e = eqb (end_of f (third f)) (length f) in (
-      both ((x && y) && z) e (both (x && y) z (both x y p.is_sound q.is_sound) r.is_sound)
+      and_from ((x && y) && z) e (and_from (x && y) z (and_from x y p.is_sound q.is_sound) r.is_sound)
           (eq-eqb (end_of f (third f)) (length f) (omega (arith, r.ends))),
       ap₂ (λ (u v : List (List ℕ)). u ++ v) p.found (ap₂ (λ (u v : List (List ℕ)). u ++ v) q.found r.found),
     )

@@ -1,4 +1,5 @@
 -- The rule of a good image is the product's test, both ways.
+use Rattle.std.proofs.lemmas.Bool.{and_from}
 use Prim.Native.Nat.{ℕ, ◌+◌, ◌-◌, ◌*◌, ◌%◌, ◌^◌, ◌<◌}
 use mathlib.Core.Path.{◌≡◌, refl, subst}
 use mathlib.Core.Bool.{Bool, true, false, ◌||◌, or-true}
@@ -8,7 +9,7 @@ use lib.Dec.{eqb}
 use borrow.Author.Tests.{eqb-true, eq-eqb, le-leb}
 use Rattle.bits.specs.Bit.{bit}
 use Rattle.bits.specs.Tests.{gap_down}
-use Rattle.bits.proofs.Sets.{both, and_l, and_r}
+use Rattle.bits.proofs.Sets.{and_l, and_r}
 use Rattle.words.specs.Word.{word_at, words_of}
 use Rattle.words.proofs.Bytes.{Bytes}
 use Rattle.registers.specs.Block.{block_of}
@@ -19,10 +20,6 @@ use Rattle.bits.proofs.Tests.{holds}
 use Rattle.rules.specs.Words.{words, box, among, LAM, GAM, place}
 use Rattle.rules.specs.Image.{Layout, GoodWords, Good}
 use Rattle.rules.proofs.GoodWords.{field_bits, bits_field, facts, gap, core}
-
-pub false_of : (t : Bool) → (t ≡ true → ⊥) → t ≡ false
-false_of true h = absurd (h refl)
-false_of false h = refl
 
 -- ---- the layout of a mailbox
 
@@ -41,7 +38,7 @@ lays : (s : List ℕ) (n : ℕ) → Layout s n → layout s n ≡ true
 unfolding layout
 lays s n h =
     let w = box s n 1 in
-    both (word_layout 0 (box s n 0)) (word_layout 1 w) (at (ide (box s n 0)) refl)
+    and_from (word_layout 0 (box s n 0)) (word_layout 1 w) (at (ide (box s n 0)) refl)
     (eq-eqb _ _ (bits_field w 5 11 (λ i l. h.others (5 + i) (omega arith) (omega arith))))
   where
     at : (t : Bool) → ide (box s n 0) ≡ t → (t || eqb (box s n 0 % 2 ^ 18) 0) ≡ true

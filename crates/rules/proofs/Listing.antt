@@ -1,4 +1,5 @@
 -- The listing is what the rulebook asks of a file, and the rulebook asks nothing else.
+use Rattle.std.proofs.lemmas.Bool.{false_from_ne_true}
 use Prim.Native.Nat.{ℕ, zero, suc, ◌+◌, ◌-◌, ◌<◌, ◌≤◌}
 use mathlib.Core.Path.{◌≡◌, refl, sym, ◌∙◌, ap, ap₂, subst, fun_ext}
 use mathlib.Core.Bool.{Bool, true, false, cond, false≢true}
@@ -26,7 +27,6 @@ use Rattle.rules.specs.Words.{byte}
 use Rattle.rules.specs.Step.{Fresh, Rules}
 use Rattle.rules.specs.Listing.{line, up_to, whole_text, Run, Listing}
 use Rattle.rules.specs.Calls.{ListingCall}
-use Rattle.rules.proofs.Good.{false_of}
 use Rattle.rules.proofs.Fresh.{fresh_meets, fresh-one}
 use Rattle.rules.proofs.Step.{step_meets, rules_one}
 use Rattle.rules.proofs.Numerals.{numeral, numeral_one}
@@ -168,7 +168,7 @@ module _ (f : List ℕ) (b : Bytes f) where
   unfolding trace.listing trace.run
   listing_meets =
       record {
-        refused = λ n. rw (false_of (trace.well_formed f) (λ h. n (trace.section f 0) (trace.section f (trace.second f)) (trace.section f (trace.third f)) (is_trace f b h)));
+        refused = λ n. rw (false_from_ne_true (trace.well_formed f) (λ h. n (trace.section f 0) (trace.section f (trace.second f)) (trace.section f (trace.third f)) (is_trace f b h)));
         run =
             λ p q r t.
             let w = trace_formed f p q r t in

@@ -1,4 +1,5 @@
 -- The read meets the rules of reading, and they leave nothing open.
+use Rattle.std.proofs.lemmas.Bool.{false_from_ne_true}
 use Prim.Native.Nat.{ℕ, suc, ◌+◌, ◌-◌, ◌*◌, ◌/◌, ◌%◌, ◌^◌, ◌<◌, ◌≤◌}
 use mathlib.Core.Path.{◌≡◌, refl, sym, ◌∙◌, ap, ap₂, subst}
 use mathlib.Core.Bool.{Bool, true, false, cond, not, ◌&&◌, ◌||◌, and-true, and-false, or-false, false≢true}
@@ -26,7 +27,7 @@ use Rattle.answers.specs.Answer.{Reading}
 use Rattle.rules.specs.Words.{Words, words, among, MODE, e_can}
 use Rattle.rules.specs.Image.{Good}
 use Rattle.rules.specs.Reading.{Gsr, is_word, Reads}
-use Rattle.rules.proofs.Good.{good-rule, rule-good, false_of}
+use Rattle.rules.proofs.Good.{good-rule, rule-good}
 use Rattle.rules.proofs.Blocks.{of_block, of_block_lem, among-all}
 use Rattle.rules.proofs.Receiving.{bit-mod}
 
@@ -136,7 +137,7 @@ pub reads : (s : List ℕ) → Bytes s → (k : ℕ) → Reads s k (read s k)
 unfolding read value place_of
 reads s b k =
     record {
-      not_good = λ n. rw (false_of (good_image s) (λ h. n (good-rule s b h))) (refl, refl);
+      not_good = λ n. rw (false_from_ne_true (good_image s) (λ h. n (good-rule s b h))) (refl, refl);
       unknown = λ h l d. rw (rule-good s b h, number (ecan (block_of s)) k d, l) (refl, refl);
       no_gsr = λ h e c. rw (rule-good s b h, e, kind c) (refl, refl);
       register = λ h l a. let d = word_number k l in rw (rule-good s b h, number (ecan (block_of s)) k d, l, awake a, ne_eqb k 32 d) (refl, refl);

@@ -1,4 +1,5 @@
 -- The step meets the rules of sending, errors and modes.
+use Rattle.std.proofs.lemmas.Bool.{or_parts}
 use Prim.Native.Nat.{ℕ, zero, suc, ◌+◌, ◌%◌, ◌<◌, ◌≤◌}
 use mathlib.Core.Path.{◌≡◌, refl, sym, ◌∙◌, ap}
 use mathlib.Core.Bool.{Bool, true, false, cond, not, ◌&&◌, ◌||◌, or-false, false≢true}
@@ -12,7 +13,6 @@ use lib.Bits.{or_zero_r}
 use borrow.Author.Tests.{eqb-true, eq-eqb, ne_eqb, le-ltb, ltb-false}
 use Rattle.bits.specs.Bit.{bit}
 use Rattle.bits.proofs.Laws.{bit-zero, same_bits}
-use Rattle.bits.proofs.Tests.{neither}
 use Rattle.registers.specs.declared.Block.{Block}
 use Rattle.registers.specs.Block.{with_gif, with_tsc, with_tec, with_rec, with_recovery, of_words}
 use Rattle.fresh.specs.Fresh.{fresh_block}
@@ -222,7 +222,7 @@ module _ (m : Words) (b : Block) (full : b.slot ≢ empty_slot) (low : b.tec ≤
     where
       at : (t : Bool) → passive b ≡ t → at_most 256 (b.tec + added b 3) ≡ unacknowledged_tec (of_block m b)
       at true e = rw e stays
-      at false e = rw (e, le-ltb 256 (b.tec + 8) (omega (arith, ltb-false 127 b.tec (neither _ _ e).0)))
+      at false e = rw (e, le-ltb 256 (b.tec + 8) (omega (arith, ltb-false 127 b.tec (or_parts _ _ e).0)))
 
 -- the end of a step
 pub ending : (m : Words) (b : Block) → Ending (of_block m b) (of_block m (settled b))

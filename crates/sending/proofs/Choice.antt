@@ -1,6 +1,7 @@
 -- What a start takes: an eligible mailbox, before which no other goes.
-use Prim.Native.Nat.{ℕ, zero, suc, ◌+◌, ◌-◌, ◌^◌, ◌<◌, ◌≤◌}
-use mathlib.Core.Path.{◌≡◌, refl, sym, ◌∙◌, ap, ap₂, subst}
+use Rattle.std.proofs.lemmas.Bool.{or_left}
+use Prim.Native.Nat.{ℕ, zero, suc, ◌+◌, ◌-◌, ◌<◌, ◌≤◌}
+use mathlib.Core.Path.{◌≡◌, refl, sym, ◌∙◌, ap, subst}
 use mathlib.Core.Bool.{Bool, true, false, cond, not, ◌&&◌, and-true, and-false, false≢true}
 use mathlib.Core.List.{List}
 use mathlib.Core.Logic.{◌≢◌}
@@ -8,22 +9,23 @@ use native.Mathlib.Decide.{dec_lt, ℕ_discrete}
 use native.Mathlib.Nat.{add-zero, add-suc}
 use native.Mathlib.Omega.{arith}
 use lib.Dec.{eqb, ltb}
+use Rattle.std.specs.Prelude.{Option, Some, None}
+use Rattle.std.specs.Option.{option_map}
+use Rattle.std.proofs.lemmas.Option.{same_Some, none-some}
 use lib.Bits.{bit_and}
-use lib.Pow.{pow_pos}
 use borrow.Author.Count.{below_none, below_more}
-use borrow.Author.Tests.{eqb-false, eq-eqb, ne_eqb, ltb-true, ltb-false}
+use borrow.Author.Tests.{eq-eqb, ne_eqb, ltb-true, ltb-false, lt-ltb}
 use Rattle.bits.specs.Bit.{bit, mask, without}
 use Rattle.bits.specs.Below.{first_below}
-use Rattle.bits.proofs.Laws.{bit-and, bit_mask, bit-without, bit-zero, same_below}
-use Rattle.bits.proofs.Sets.{or_l}
-use Rattle.bits.proofs.Below.{First, first_is, first_by}
+use Rattle.bits.proofs.Laws.{bit-and, bit_mask, bit-without}
+use Rattle.bits.proofs.Below.{First, first_is}
 use Rattle.registers.specs.declared.Block.{Block}
 use Rattle.registers.specs.Block.{block_of}
 use Rattle.registers.specs.Modes.{on_bus}
 use Rattle.registers.specs.Sending.{eligible}
 use Rattle.mailboxes.specs.Mailbox.{mailboxes}
 use Rattle.sending.specs.declared.Best.{Best}
-use Rattle.sending.specs.Choice.{key_at, none_yet, better, smallest_below, chosen, next, better_of}
+use Rattle.sending.specs.Choice.{key_at, none_yet, better, smallest_below, named, chosen, next, better_of}
 
 -- ---- Sending: who is eligible, by bits
 
@@ -34,6 +36,22 @@ eligible-bit b m =
     ∙ ap (λ (x : Bool). x && not (bit b.trr m))
     (bit-without (bit_and b.trs b.mc) b.cdr m
     ∙ ap (λ (x : Bool). x && not (bit b.cdr m)) (bit-and b.trs b.mc m))
+
+-- ---- the choice as an `Option`
+
+pub named-some : (n m : ℕ) → named n ≡ Some m → (n < mailboxes) × (m ≡ n)
+named-some n m e = at (ltb n mailboxes) refl
+  where
+    at : (t : Bool) → ltb n mailboxes ≡ t → (n < mailboxes) × (m ≡ n)
+    at true p = (ltb-true n mailboxes p, same_Some m n (sym e ∙ rw p))
+    at false p = absurd (none-some m (sym (rw p) ∙ e))
+
+pub named-none : (n : ℕ) → named n ≡ None → mailboxes ≤ n
+named-none n e = at (ltb n mailboxes) refl
+  where
+    at : (t : Bool) → ltb n mailboxes ≡ t → mailboxes ≤ n
+    at true p = absurd (none-some n (sym e ∙ rw p))
+    at false p = ltb-false n mailboxes p
 
 -- ---- one mailbox more
 
@@ -51,35 +69,56 @@ module _ (s : List ℕ) (w n : ℕ) where
 
 -- ---- the search carries the best mailbox with its key
 
-pub record Carries (s : List ℕ) (w n : ℕ) (best : Best) : Type 0 where
-  pub mailbox : best.mailbox ≡ smallest_below s w n
-  pub key : best.mailbox ≢ none_yet → best.key ≡ key_at s best.mailbox
+-- the best mailbox as the definition says it, and its key
+abbrev pub mailbox_in : Option Best → ℕ
+mailbox_in None = none_yet
+mailbox_in (Some best) = best.mailbox
 
-module _ (s : List ℕ) (w n : ℕ) (best : Best) (h : Carries s w n best) where
-  -- where there is a best mailbox, its key is the one that is kept
-  by_key : better_of best n (key_at s n) ≡ cond (better s n best.mailbox) (record { mailbox = n; key = key_at s n }) best
+abbrev pub KeyIn : List ℕ → Option Best → Type 0
+KeyIn s None = Unit
+KeyIn s (Some best) = (best.mailbox < mailboxes) × (best.key ≡ key_at s best.mailbox)
+
+pub record Carries (s : List ℕ) (w n : ℕ) (best : Option Best) : Type 0 where
+  pub mailbox : mailbox_in best ≡ smallest_below s w n
+  pub key : KeyIn s best
+
+module _ (s : List ℕ) (w n : ℕ) (small : n < mailboxes) (p : bit w n ≡ true) where
+  -- one that is named, where none was before, and where one was
+  first-carried : Carries s w n None → Carries s w (suc n) (Some (better_of None n (key_at s n)))
   unfolding better_of
-  by_key = at (eqb best.mailbox none_yet) refl
-    where
-      at : (t : Bool) → eqb best.mailbox none_yet ≡ t
-          → better_of best n (key_at s n) ≡ cond (better s n best.mailbox) (record { mailbox = n; key = key_at s n }) best
-      at true e = rw e
-      at false e = rw (h.key (eqb-false best.mailbox none_yet e))
+  first-carried h =
+      let e = takes-over s w n (rw (p, ap (better s n) (sym h.mailbox))) in
+      record { mailbox = sym e; key = (small, refl) }
 
-  -- one that is named
-  pub carried : bit w n ≡ true → Carries s w (suc n) (better_of best n (key_at s n))
-  carried p = at (better s n best.mailbox) refl
+  -- the key that is kept is that of the best mailbox
+  by_key : (best : Best) → KeyIn s (Some best)
+      → better_of (Some best) n (key_at s n) ≡ cond (better s n best.mailbox) (record { mailbox = n; key = key_at s n }) best
+  unfolding better_of
+  by_key best k = rw (ne_eqb best.mailbox none_yet (λ e. omega (arith, k.0)), k.1)
+
+  next-carried : (best : Best) → Carries s w n (Some best) → Carries s w (suc n) (Some (better_of (Some best) n (key_at s n)))
+  next-carried best h = at (better s n best.mailbox) refl
     where
-      at : (u : Bool) → better s n best.mailbox ≡ u → Carries s w (suc n) (better_of best n (key_at s n))
+      at : (t : Bool) → better s n best.mailbox ≡ t → Carries s w (suc n) (Some (better_of (Some best) n (key_at s n)))
       at true q =
           let e = takes-over s w n (rw (p, ap (better s n) (sym h.mailbox) ∙ q)) in
-          rw (by_key, q) (record { mailbox = sym e; key = λ z. refl })
+          rw (by_key best h.key, q) (record { mailbox = sym e; key = (small, refl) })
       at false q =
           let e = stays s w n (rw (p, ap (better s n) (sym h.mailbox) ∙ q)) in
-          rw (by_key, q) (record { mailbox = h.mailbox ∙ sym e; key = h.key })
+          rw (by_key best h.key, q) (record { mailbox = h.mailbox ∙ sym e; key = h.key })
+
+  pub carried : (best : Option Best) → Carries s w n best → Carries s w (suc n) (Some (better_of best n (key_at s n)))
+  carried None h = first-carried h
+  carried (Some best) h = next-carried best h
+
+-- at the end: the mailbox that it carries is the choice
+pub found-named : (s : List ℕ) (w : ℕ) (best : Option Best) → Carries s w mailboxes best
+    → option_map (λ (b : Best). b.mailbox) best ≡ named (smallest_below s w mailboxes)
+found-named s w None h = rw (sym h.mailbox)
+found-named s w (Some best) h = rw (sym h.mailbox, lt-ltb best.mailbox mailboxes h.key.0)
 
 -- those that are not named change nothing
-module _ (s : List ℕ) (w : ℕ) (best : Best) where
+module _ (s : List ℕ) (w : ℕ) (best : Option Best) where
   passed : (a d : ℕ) → ((j : ℕ) → a ≤ j → j < a + d → bit w j ≡ false) → Carries s w a best → Carries s w (a + d) best
   passed a zero f h = rw (add-zero a) h
   passed a (suc d) f h =
@@ -95,17 +134,19 @@ module _ (s : List ℕ) (w : ℕ) (best : Best) where
 -- ---- the search goes from one named mailbox to the next
 
 -- what is left to look at: below its first mailbox all is done, from there on it is the word
-pub record Left (s : List ℕ) (w rest : ℕ) (best : Best) : Type 0 where
+pub record Left (s : List ℕ) (w rest : ℕ) (best : Option Best) : Type 0 where
   pub done : Carries s w (first_below (bit rest) 32) best
   pub same : (j : ℕ) → first_below (bit rest) 32 ≤ j → bit rest j ≡ bit w j
 
 module _ (s : List ℕ) (w : ℕ) where
-  pub begins : (best : Best) → Carries s w 0 best → Left s w w best
-  begins best h =
+  pub begins : Left s w w None
+  unfolding smallest_below
+  begins =
       let f = first_is (bit w) 32 in
-      record { done = passing s w best 0 (first_below (bit w) 32) (omega arith) (λ j l. f.none j) h; same = λ j l. refl }
+      let h : Carries s w 0 None = record { mailbox = refl; key = tt } in
+      record { done = passing s w None 0 (first_below (bit w) 32) (omega arith) (λ j l. f.none j) h; same = λ j l. refl }
 
-  module _ (rest : ℕ) (best : Best) (h : Left s w rest best) where
+  module _ (rest : ℕ) (best : Option Best) (h : Left s w rest best) where
     abbrev n : ℕ
     n = first_below (bit rest) 32
 
@@ -115,8 +156,8 @@ module _ (s : List ℕ) (w : ℕ) where
     after-bit : (j : ℕ) → j ≢ n → bit after j ≡ bit rest j
     after-bit j d = bit-without rest (mask n) j ∙ rw (bit_mask n j, ne_eqb j n d) (and-true (bit rest j))
 
-    pub named : n < 32 → bit rest n ≡ true
-    named l = (first_is (bit rest) 32).holds l
+    pub is_named : n < 32 → bit rest n ≡ true
+    is_named l = (first_is (bit rest) 32).holds l
 
     -- the next one is further up
     pub onwards : n < 32 → n < first_below (bit after) 32
@@ -136,33 +177,18 @@ module _ (s : List ℕ) (w : ℕ) where
         at (yes k) = k
         at (no k) = absurd (false≢true (sym (gone (first_below (bit after) 32) (omega arith)) ∙ f.holds (omega arith)))
 
-    pub goes_on : n < 32 → Left s w after (better_of best n (key_at s n))
+    pub goes_on : n < 32 → Left s w after (Some (better_of best n (key_at s n)))
     goes_on l =
         let m = first_below (bit after) 32 in
         let k = onwards l in
-        let up = sym (h.same n (omega arith)) ∙ named l in
+        let up = sym (h.same n (omega arith)) ∙ is_named l in
         record {
           done =
-              passing s w (better_of best n (key_at s n)) (suc n) m (omega arith)
+              passing s w (Some (better_of best n (key_at s n))) (suc n) m (omega arith)
               (λ j u v. sym (h.same j (omega arith)) ∙ sym (after-bit j (λ e. omega arith)) ∙ (first_is (bit after) 32).none j v)
-              (carried s w n best h.done up);
+              (carried s w n l up best h.done);
           same = λ j u. after-bit j (λ e. omega arith) ∙ h.same j (omega arith);
         }
-
--- a word that is not empty names a mailbox
-pub some-named : (w : ℕ) → w < 2 ^ 32 → w ≢ 0 → first_below (bit w) 32 < 32
-some-named w l d = at (dec_lt (first_below (bit w) 32) 32)
-  where
-    f : First (bit w) 32 (first_below (bit w) 32)
-    f = first_is (bit w) 32
-
-    at : Dec (first_below (bit w) 32 < 32) → first_below (bit w) 32 < 32
-    at (yes k) = k
-    at (no k) = absurd (d (same_below 32 w 0 l (pow_pos 32) (λ i u. f.none i (omega arith) ∙ sym (bit-zero i))))
-
--- the empty word names none
-pub none_named : first_below (bit 0) 32 ≡ 32
-none_named = first_by (bit 0) 32 32 (record { most = omega arith; holds = λ l. absurd (omega arith); none = λ j l. bit-zero j })
 
 -- ---- the smallest key, of equal keys the lowest number
 
@@ -201,7 +227,7 @@ module _ (s : List ℕ) (w n m : ℕ) where
         (more (Before s w n) (λ j h b. let z = (a j h b).0 in (omega arith, λ e. absurd (omega arith))) (λ b. (omega arith, λ e. omega arith)))
 
     least_old : better s n m ≡ false → Least s w n m → Least s w (suc n) m
-    least_old q (nobody e f) = absurd (false≢true (sym q ∙ or_l (eqb m none_yet) _ (eq-eqb m none_yet e)))
+    least_old q (nobody e f) = absurd (false≢true (sym q ∙ or_left (eqb m none_yet) _ (eq-eqb m none_yet e)))
     least_old q (somebody l g a) =
         somebody (omega arith) g (more (Before s w m) a (λ b. (loses (omega arith) q, λ e. omega arith)))
 
@@ -297,13 +323,6 @@ module _ (s : List ℕ) where
   pub next_on : on_bus (block_of s) ≡ true → next s ≡ chosen s (eligible (block_of s)) (bit (block_of s).options 0)
   unfolding next
   next_on h = rw h
-
-  -- the same by a block and an eligible word that were loaded
-  pub next_by : (b : Block) → b ≡ block_of s → on_bus b ≡ true → (mtos : Bool) → bit b.options 0 ≡ mtos → (w : ℕ) → w ≡ eligible b
-      → chosen s w mtos ≡ next s
-  next_by b loaded h mtos e w q =
-      ap₂ (chosen s) (q ∙ ap eligible loaded) (sym e ∙ ap (λ (x : Block). bit x.options 0) loaded)
-      ∙ sym (next_on (ap on_bus (sym loaded) ∙ h))
 
   pub next_is : on_bus (block_of s) ≡ true → Chosen s (eligible (block_of s)) (bit (block_of s).options 0) (next s)
   next_is h = rw (next_on h) (chosen_is s (eligible (block_of s)) (bit (block_of s).options 0))

@@ -1,26 +1,26 @@
 // The choice of what to send.
 #![tactic(auto)]
 
-ghost use Rattle.std.specs.Prelude.{◌≡◌, ◌<◌, length};
+ghost use Rattle.std.specs.Prelude.{◌≡◌, ◌<◌};
 ghost use Rattle.bits.specs.Bit.{bit};
 ghost use Rattle.bits.specs.Below.{first_below};
-ghost use Rattle.registers.specs.Block.{image_bytes, block_of};
-ghost use Rattle.sending.specs.Choice.{key_at, smallest_below, better_of, next as next_of};
+ghost use Rattle.sending.specs.Choice.{key_at, smallest_below, better_of, named, next as next_of};
 
 use mailboxes::Key;
-use registers::Block;
+use registers::{Image, Loaded};
 
-// The lowest mailbox that a word names, by the count of the zeros below its bit; 32 where it names none, which is the count of
-// the empty word.
-pub fn lowest(w: u32) -> u32
-    ensures { result ≡ first_below (bit w) 32 }
+// The lowest mailbox that a word names, by the count of the zeros below its bit, which is 32 of the empty word.
+pub fn lowest(w: u32) -> Option<u32>
+    ensures { result ≡ named (first_below (bit w) 32) }
 {
-    u32::trailing_zeros(w)
+    let n = w.trailing_zeros();
+    (n < 32).then_some(n)
 }
 
 // The arbitration key of mailbox n.
-fn key_at(s: &[u8], n: u32) -> Key
-    requires { (length s.now ≡ image_bytes) × (n < 32) }
+#[tactic(auto, unfolding(crate::specs::Choice::key_at))]
+fn key_at(s: &Image, n: u32) -> Key
+    requires { n < 32 }
     ensures { result ≡ key_at s.now n }
 {
     let w = mailboxes::word(s, n as usize, 0);
@@ -32,53 +32,49 @@ fn key_at(s: &[u8], n: u32) -> Key
     )
 }
 
-// The best mailbox so far and its key; mailbox 32 for none yet, since every number is some frame's key.
+// A mailbox and its key.
 #[derive(Clone, Copy)]
 pub struct Best {
     pub mailbox: u32,
     pub key: Key,
 }
 
-fn better(best: Best, n: u32, key: Key) -> Best
+// The better of the best mailbox so far, if there is one, and mailbox n.
+fn better(best: Option<Best>, n: u32, key: Key) -> Best
     ensures { result ≡ better_of best n key }
 {
-    let old = best.key;
-    if (best.mailbox == 32) | (key.0 < old.0) {
-        Best { mailbox: n, key }
-    } else {
-        best
+    let new = Best { mailbox: n, key };
+    match best {
+        Some(old) => if key < old.key { new } else { old },
+        None => new,
     }
 }
 
-// The mailbox with the smallest key among those that a word names; 32 where it names none. It goes from one that is named to the
-// next: `rest` has those that are not yet looked at.
-pub fn smallest(s: &[u8], w: u32) -> u32
-    requires { length s.now ≡ image_bytes }
-    ensures { result ≡ smallest_below s.now w 32 }
+// The mailbox with the smallest key among those that a word names. It goes from one that is named to the next: `rest` has those
+// that are not yet looked at. Stays a loop: it counts no index, and looks at no mailbox that is not named.
+pub fn smallest(s: &Image, w: u32) -> Option<u32>
+    ensures { result ≡ named (smallest_below s.now w 32) }
 {
-    let mut best = Best {
-        mailbox: 32,
-        key: Key(0),
-    };
+    let mut best: Option<Best> = None;
     let mut rest = w;
-    while rest != 0 {
-        let n = lowest(rest);
-        best = better(best, n, key_at(s, n));
+    while let Some(n) = lowest(rest) {
+        best = Some(better(best, n, key_at(s, n)));
         rest = bits::without(rest, bits::mask(n));
     }
-    best.mailbox
+    best.map(|b| b.mailbox)
 }
 
 // What a start takes.
-pub fn next(s: &[u8], b: Block) -> u32
-    requires { (length s.now ≡ image_bytes) × (b ≡ block_of s.now) }
-    ensures { result ≡ next_of s.now }
+#[tactic(auto, unfolding(crate::specs::Choice::next, crate::specs::Choice::chosen))]
+pub fn next(m: Loaded) -> Option<u32>
+    ensures { result ≡ named (next_of m.entry.image.now) }
 {
+    let b = m.block;
     if !b.is_on_bus() {
-        return 32;
+        return None;
     }
     if bits::test(b.options, 0) {
-        smallest(s, b.eligible())
+        smallest(m.image, b.eligible())
     } else {
         lowest(b.eligible())
     }

@@ -15,7 +15,7 @@ use Rattle.trace.specs.Trace.{takes}
 use Rattle.stream.specs.declared.Reader.{Reader}
 use Rattle.stream.specs.Stream.{behind, over}
 use Rattle.stream.specs.Calls.{standing, seen, known, whole, all_zero, ready, against}
-use Rattle.stream.specs.Terms.{reader_of}
+use Rattle.stream.specs.Terms.{reader_of, state_against}
 use Rattle.stream.proofs.Ready.{steps-few}
 use Rattle.stream.proofs.State.{ranged, ready-standing}
 
@@ -36,21 +36,6 @@ all_seven a b c d e f g p q r s = rw (p, q, r, s) (to d)
     to : (d : Bool) → (d && f && g) ≡ every (true ∷ true ∷ true ∷ d ∷ true ∷ f ∷ g ∷ [])
     to true = refl
     to false = refl
-
--- no sum of the judging is too large for a word
-pub left_bound : (k : ℕ) {m : ℕ} → m ≡ cond (eqb k 4) 0 1000 → m ≤ 1000
-left_bound k = to (eqb k 4)
-  where
-    to : (a : Bool) {m : ℕ} → m ≡ cond a 0 1000 → m ≤ 1000
-    to true h = omega arith
-    to false h = omega arith
-
-pub known_bound : (k l : ℕ) {n : ℕ} → n ≡ cond (eqb l 0) (k - 1) k → n ≤ k
-known_bound k l = to (eqb l 0)
-  where
-    to : (a : Bool) {n : ℕ} → n ≡ cond a (k - 1) k → n ≤ k
-    to true h = omega arith
-    to false h = omega arith
 
 module _ (t : List ℕ) (r : Reader) (h : r ≡ reader_of t) where
   section_is : r.section ≡ word_at t 0
@@ -122,6 +107,11 @@ module _ (s t : List ℕ) where
     other-state i = rw (eq-eqb (length s) 776 h, ne_eqb (length t) 32 i)
 
     module _ (i : length t ≡ 32) where
+      -- what stands against a state is what stands against the call
+      pub of_state : state_against t ≡ against s t
+      unfolding against
+      of_state = rw (eq-eqb (length s) 776 h, eq-eqb (length t) 32 i)
+
       pub over_already : word_at t 0 ≡ over → 8 ≡ against s t
       unfolding against
       over_already o = rw (eq-eqb (length s) 776 h, eq-eqb (length t) 32 i, eq-eqb (word_at t 0) over o)
@@ -141,6 +131,10 @@ pub record Taken (s t : List ℕ) : Type 0 where
   pub state : length t ≡ 32
   pub going : word_at t 0 ≢ over
   pub left : ready t ≡ true
+
+-- a state that a call leaves is not over
+pub fit : (s t : List ℕ) → length s ≡ 776 → length t ≡ 32 → ready t ≡ true → Taken s t
+fit s t h i r = record { image = h; state = i; going = λ o. omega (arith, leb-true (word_at t 0) behind (ranged t r).1.0); left = r }
 
 -- nothing stands against a call; the stream is over; or a length or the state is none
 pub data Stands (s t : List ℕ) : ℕ → Type 0 where

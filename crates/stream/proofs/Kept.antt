@@ -1,11 +1,11 @@
 -- The code of the state bytes: what it writes there is the state of where the stream stands.
 use Prim.Native.Nat.{ℕ, ◌-◌, ◌≤◌}
 use mathlib.Core.Path.{◌≡◌, refl, sym, ◌∙◌, ap}
-use mathlib.Core.List.{List, [], ◌++◌, append-nil}
+use mathlib.Core.List.{List, [], ◌++◌}
 use mathlib.Core.Logic.{◌≢◌}
 use native.Mathlib.Omega.{arith}
 use lib.ListN.{length, take, drop, replicate, take-append-drop}
-use lib.Seq.{length-take-le, drop-length}
+use lib.Seq.{length-take-le}
 use borrow.Author.Tests.{eq-eqb, ne_eqb}
 use Rattle.texts.specs.Text.{word_bytes, Put}
 use Rattle.texts.proofs.Writing.{at_front, both_put}
@@ -14,13 +14,6 @@ use Rattle.stream.specs.declared.Reader.{Reader}
 use Rattle.stream.specs.Stream.{at, behind, last_line}
 use Rattle.stream.specs.Calls.{state_of}
 use Rattle.stream.specs.Terms.{standing_by, Clean, numbers}
-
--- a text as long as the bytes it is put into
-pub copied : {o t x : List ℕ} {n : ℕ} → Put o 0 t x n → length t ≡ length o → x ≡ t
-copied {o} {t} p l =
-    at_front (omega arith) p
-    ∙ ap (λ (y : List ℕ). t ++ y) (ap (λ (k : ℕ). drop k o) l ∙ drop-length o)
-    ∙ append-nil t
 
 -- four words from the front on
 pub numbers-put : (r : Reader) {t u v w x : List ℕ} {i j k m : ℕ} → length t ≡ 32 → Put t 0 (word_bytes r.section) u i → Put u i (word_bytes r.left) v j

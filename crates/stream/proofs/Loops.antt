@@ -7,11 +7,11 @@ use mathlib.Core.Logic.{◌≢◌}
 use native.Mathlib.Omega.{arith}
 use native.Mathlib.Numerals.{add-one}
 use lib.Dec.{eqb, ltb}
-use lib.ListN.{length, take, drop, get_or, length-append, length-drop, take-append-drop, drop_of_length-le}
-use lib.Seq.{length-take-le, drop-cons, drop-drop, drop-length}
+use lib.ListN.{length, take, drop, get_or, length-append, take-append-drop, drop_of_length-le}
+use lib.Seq.{length-take-le, drop-cons}
 use borrow.Author.Tests.{eq-eqb, ne_eqb, eqb-true, eqb-false, ltb-true, ltb-false}
 use Rattle.words.specs.Word.{word_at}
-use Rattle.words.proofs.Bytes.{Bytes}
+use Rattle.words.proofs.Bytes.{Bytes, bytes_take, bytes_drop}
 use Rattle.texts.specs.Text.{written}
 use Rattle.texts.proofs.Writing.{written-append}
 use Rattle.stream.specs.declared.Reader.{Reader}
@@ -24,24 +24,22 @@ use Rattle.stream.proofs.Ready.{fed-ready, printed-most, printed-fits}
 
 -- ---- the bytes of a part
 
--- i of them are taken: what is left to take gives what the whole gives
-pub record Going (keeps : Bool) (σ : Standing) (part o e s out : List ℕ) (r : Reader) (n i : ℕ) : Type 0 where
-  pub rest : fed (standing_by r e s) (drop i part) ≡ fed σ part
-  pub counted : n + length (printed (standing_by r e s) (drop i part)) ≡ length (printed σ part)
-  pub text : keeps ≡ true → written out n (printed (standing_by r e s) (drop i part)) ≡ written o 0 (printed σ part)
+-- what is left of them gives what the whole gives
+pub record Going (keeps : Bool) (σ : Standing) (part o e s out : List ℕ) (r : Reader) (n : ℕ) (l : List ℕ) : Type 0 where
+  pub rest : fed (standing_by r e s) l ≡ fed σ part
+  pub counted : n + length (printed (standing_by r e s) l) ≡ length (printed σ part)
+  pub text : keeps ≡ true → written out n (printed (standing_by r e s) l) ≡ written o 0 (printed σ part)
   pub room : room_for keeps (length (printed σ part)) ≤ length o
   pub bound : length (printed σ part) ≤ 39016
   pub ready : Ready (standing_by r e s)
   pub few : r.seen ≤ 15
-  pub sixteen : length e ≡ 16
   pub clean : Clean r.seen e
-  pub image-length : length s ≡ length σ.image
+  pub small : Bytes l
   pub out_length : length out ≡ length o
-  pub most : i ≤ length part
 
-pub begun : (keeps : Bool) (r : Reader) (part o e s : List ℕ) → Ready (standing_by r e s) → r.seen ≤ 15 → length e ≡ 16 → Clean r.seen e
-    → room_for keeps (length (printed (standing_by r e s) part)) ≤ length o → Bytes part → Going keeps (standing_by r e s) part o e s o r 0 0
-begun keeps r part o e s d f h c m b =
+pub begun : (keeps : Bool) (r : Reader) (part o e s : List ℕ) → Ready (standing_by r e s) → r.seen ≤ 15 → Clean r.seen e
+    → room_for keeps (length (printed (standing_by r e s) part)) ≤ length o → Bytes part → Going keeps (standing_by r e s) part o e s o r 0 part
+begun keeps r part o e s d f c m b =
     record {
       rest = refl;
       counted = omega arith;
@@ -50,19 +48,16 @@ begun keeps r part o e s d f h c m b =
       bound = printed-most (standing_by r e s) d part b;
       ready = d;
       few = f;
-      sixteen = h;
       clean = c;
-      image-length = refl;
+      small = b;
       out_length = refl;
-      most = omega arith;
     }
 
-module _ {keeps : Bool} {σ : Standing} {part o e s out : List ℕ} {r : Reader} {n i : ℕ} (g : Going keeps σ part o e s out r n i) where
-  pub ended : length part ≤ i → Fed keeps σ part o e s out (record { reader = r; length = n })
+module _ {keeps : Bool} {σ : Standing} {part o e s out : List ℕ} {r : Reader} {n : ℕ} {l : List ℕ} (g : Going keeps σ part o e s out r n l) where
+  pub ended : length l ≡ 0 → Fed keeps σ part o e s out (record { reader = r; length = n })
   unfolding fed printed written
-  ended l =
-      let z : i ≡ length part = omega (arith, g.most) in
-      let none : drop i part ≡ [] = ap (λ (k : ℕ). drop k part) z ∙ drop-length part in
+  ended z =
+      let none : l ≡ [] = drop_of_length-le l {i = 0} (omega arith) in
       record {
         next = ap (fed (standing_by r e s)) (sym none) ∙ g.rest;
         few = g.few;
@@ -71,86 +66,87 @@ module _ {keeps : Bool} {σ : Standing} {part o e s out : List ℕ} {r : Reader}
         text = λ m. ap (λ (w : List ℕ). written out n (printed (standing_by r e s) w)) (sym none) ∙ g.text m;
       }
 
-  module _ (l : i < length part) {j : ℕ} (c : j ≡ at_once r.left r.seen (length part - i)) where
+  module _ (some : 1 ≤ length l) {j : ℕ} (c : j ≡ at_once r.left r.seen (length l)) where
     abbrev τ : Standing
     τ = standing_by r e s
 
     -- as many as are there at most, and as the event lacks
-    pub some-there : (1 ≤ j) × (i + j ≤ length part) × (r.seen + j ≤ 16) × (r.left ≡ 0 → j ≡ 1)
-    some-there = to (eqb r.left 0) refl (ltb (length part - i) (16 - r.seen)) refl c
+    pub some-there : (1 ≤ j) × (j ≤ length l) × (r.seen + j ≤ 16) × (r.left ≡ 0 → j ≡ 1)
+    some-there = to (eqb r.left 0) refl (ltb (length l) (16 - r.seen)) refl c
       where
-        to : (a : Bool) → eqb r.left 0 ≡ a → (b : Bool) → ltb (length part - i) (16 - r.seen) ≡ b
-            → j ≡ cond a 1 (cond b (length part - i) (16 - r.seen)) → (1 ≤ j) × (i + j ≤ length part) × (r.seen + j ≤ 16) × (r.left ≡ 0 → j ≡ 1)
+        to : (a : Bool) → eqb r.left 0 ≡ a → (b : Bool) → ltb (length l) (16 - r.seen) ≡ b
+            → j ≡ cond a 1 (cond b (length l) (16 - r.seen)) → (1 ≤ j) × (j ≤ length l) × (r.seen + j ≤ 16) × (r.left ≡ 0 → j ≡ 1)
         to true x b y z = (omega arith, omega arith, omega (arith, g.few), λ n. z)
         to false x true y z =
-            let m = ltb-true (length part - i) (16 - r.seen) y in
+            let m = ltb-true (length l) (16 - r.seen) y in
             let n = eqb-false r.left 0 x in
             (omega arith, omega arith, omega arith, λ o. absurd (n o))
         to false x false y z =
-            let m = ltb-false (length part - i) (16 - r.seen) y in
+            let m = ltb-false (length l) (16 - r.seen) y in
             let n = eqb-false r.left 0 x in
             (omega (arith, g.few), omega (arith, g.few), omega (arith, g.few), λ o. absurd (n o))
 
-    module _ {b : List ℕ} (h : b ≡ take j (drop i part)) where
+    module _ {b more : List ℕ} (h : b ≡ take j l) (i : more ≡ drop j l) where
       pub chunk_length : length b ≡ j
-      chunk_length = ap length h ∙ length-take-le j (drop i part) (omega (arith, some-there.1, length-drop i part))
+      chunk_length = ap length h ∙ length-take-le j l some-there.1
+
+      bytes_here : Bytes b
+      bytes_here = rw h (bytes_take j l g.small)
+
+      bytes_left : Bytes more
+      bytes_left = rw i (bytes_drop j l g.small)
 
       abbrev later : List ℕ
-      later = printed (fed τ b) (drop (i + j) part)
+      later = printed (fed τ b) more
 
-      here : drop i part ≡ b ++ drop (i + j) part
-      here = sym (take-append-drop j (drop i part)) ∙ ap₂ (λ (x y : List ℕ). x ++ y) (sym h) (drop-drop j i part)
+      here : l ≡ b ++ more
+      here = sym (take-append-drop j l) ∙ ap₂ (λ (x y : List ℕ). x ++ y) (sym h) (sym i)
 
-      this_text : printed τ (drop i part) ≡ printed τ b ++ later
-      this_text = ap (printed τ) here ∙ printed-append τ b (drop (i + j) part)
+      this_text : printed τ l ≡ printed τ b ++ later
+      this_text = ap (printed τ) here ∙ printed-append τ b more
 
-      this_rest : fed τ (drop i part) ≡ fed (fed τ b) (drop (i + j) part)
-      this_rest = ap (fed τ) here ∙ fed-append τ b (drop (i + j) part)
+      this_rest : fed τ l ≡ fed (fed τ b) more
+      this_rest = ap (fed τ) here ∙ fed-append τ b more
 
       in_all : n + (length (printed τ b) + length later) ≡ length (printed σ part)
       in_all = omega (arith, g.counted, ap length this_text, length-append (printed τ b) later)
 
       -- the place of their text, and the room that is there
-      module _ (small : Bytes b) {q : ℕ} (a : q ≡ cond keeps n 0) where
+      module _ {q : ℕ} (a : q ≡ cond keeps n 0) where
         pub piece_room : q + length (printed τ b) ≤ length out
         piece_room = to keeps g.room a
           where
             to : (k : Bool) → room_for k (length (printed σ part)) ≤ length o → q ≡ cond k n 0 → q + length (printed τ b) ≤ length out
             to true m e = omega (arith, in_all, g.out_length)
-            to false m e = omega (arith, printed-fits τ g.ready b small, chunk_length, some-there.2, g.out_length)
+            to false m e = omega (arith, printed-fits τ g.ready b bytes_here, chunk_length, some-there.2, g.out_length)
 
         module _ {d u out' : List ℕ} {p : Taken} (w : TookSome τ b out q d u out' p) where
-          pub behind-place : q ≤ p.length
-          behind-place = omega (arith, w.put.behind)
-
           pub below : n + (p.length - q) ≤ 39016
           below = omega (arith, w.put.behind, in_all, g.bound)
 
-          pub taken : length d ≡ length e → length u ≡ length s → length out' ≡ length out → Going keeps σ part o d u out' p.reader (n + (p.length - q)) (i + j)
-          taken ed us oo =
+          pub taken : length out' ≡ length out → Going keeps σ part o d u out' p.reader (n + (p.length - q)) more
+          taken oo =
               let k = n + (p.length - q) in
               let m : k ≡ n + length (printed τ b) = omega (arith, w.put.behind) in
               record {
-                rest = ap (λ (τ : Standing). fed τ (drop (i + j) part)) w.stands ∙ sym this_rest ∙ g.rest;
+                rest = ap (λ (τ : Standing). fed τ more) w.stands ∙ sym this_rest ∙ g.rest;
                 counted =
-                    ap (λ (τ : Standing). k + length (printed τ (drop (i + j) part))) w.stands
+                    ap (λ (τ : Standing). k + length (printed τ more)) w.stands
                     ∙ omega (arith, m, in_all);
                 text = λ f.
                     let c : q ≡ n = a ∙ ap (λ (k : Bool). cond k n 0) f in
-                    ap (λ (τ : Standing). written out' k (printed τ (drop (i + j) part))) w.stands
+                    ap (λ (τ : Standing). written out' k (printed τ more)) w.stands
                     ∙ ap₂ (λ (y : List ℕ) (j : ℕ). written y j later) (w.put.bytes ∙ ap (λ (j : ℕ). written out j (printed τ b)) c) m
                     ∙ written-append out n (printed τ b) later
                     ∙ ap (written out n) (sym this_text)
                     ∙ g.text f;
                 room = g.room;
                 bound = g.bound;
-                ready = rw w.stands (fed-ready τ g.ready b small);
+                ready = rw w.stands (fed-ready τ g.ready b bytes_here);
                 few = w.few;
-                sixteen = ed ∙ g.sixteen;
                 clean = w.clean;
-                image-length = us ∙ g.image-length;
+                small = bytes_left;
                 out_length = oo ∙ g.out_length;
-                most = some-there.1;
               }
 
 -- ---- zeros

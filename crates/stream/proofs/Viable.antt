@@ -1,4 +1,5 @@
 -- A stream that is not over can be ended; so the fault is the first byte that no well-formed file could have there.
+use Rattle.std.proofs.lemmas.Bool.{false_from_ne_true}
 use Prim.Native.Nat.{ℕ, zero, suc, ◌+◌, ◌-◌, ◌<◌, ◌≤◌}
 use mathlib.Core.Path.{◌≡◌, refl, sym, ◌∙◌, ap, subst}
 use mathlib.Core.Bool.{Bool, true, false, false≢true}
@@ -107,12 +108,8 @@ final p g b d h w =
     omega (arith, o, (all_read (p ++ g) (bytes-append p g b d) w).0, ap (λ (σ : Standing). σ.section) e)
 
 pub fault : Fault
-fault p b = (λ h g d. no (well_formed (p ++ g)) (final p g b d h), λ f. yes (is_over (fed opened p)) refl f)
+fault p b = (λ h g d. false_from_ne_true (well_formed (p ++ g)) (final p g b d h), λ f. yes (is_over (fed opened p)) refl f)
   where
-    no : (a : Bool) → (a ≡ true → ⊥) → a ≡ false
-    no true n = absurd (n refl)
-    no false n = refl
-
     yes : (a : Bool) → is_over (fed opened p) ≡ a → ((g : List ℕ) → Bytes g → well_formed (p ++ g) ≡ false) → a ≡ true
     yes true h f = refl
     yes false h f =

@@ -8,7 +8,7 @@ use Rattle.trace.specs.Trace.{takes}
 use Rattle.stream.specs.declared.Reader.{Reader}
 use Rattle.stream.specs.declared.Taken.{Taken}
 use Rattle.stream.specs.Stream.{Standing, at, behind, over, counts, fed, printed}
-use Rattle.stream.specs.Calls.{state_of, whole}
+use Rattle.stream.specs.Calls.{state_of, whole, ready}
 
 -- The reader by value, the 16 bytes e in which it gathers, and the image s.
 abbrev pub standing_by : Reader → List ℕ → List ℕ → Standing
@@ -17,6 +17,11 @@ standing_by r e s = at r.section r.left r.steps (take r.seen e) s
 -- The reader that the state bytes keep.
 abbrev pub reader_of : List ℕ → Reader
 reader_of t = record { section = word_at t 0; left = word_at t 4; steps = word_at t 8; seen = word_at t 12 }
+
+-- Document 02, request e, over a slow cable: what stands against a feeding or a closing where image and state are of their length, as `against` has it: 8
+-- where the stream is over, 1 where no call leaves such a state; 0 is nothing.
+abbrev pub state_against : List ℕ → ℕ
+state_against t = cond (eqb (word_at t 0) over) 8 (cond (ready t) 0 1)
 
 -- Where a stream can stand.
 pub record Ready (σ : Standing) : Type 0 where

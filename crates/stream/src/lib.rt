@@ -3,25 +3,32 @@
 // in neither (D136).
 #![tactic(auto)]
 
-ghost use Rattle.std.specs.Prelude.{◌≡◌, true, cond, [], ◌≢◌, ◌+◌, ◌*◌, ◌<◌, ◌≤◌, eqb, leb, length, drop, get_or};
+ghost use Rattle.std.specs.Prelude.{◌≡◌, true, cond, [], ◌≢◌, ◌+◌, ◌*◌, ◌<◌, ◌≤◌, eqb, leb, length, drop, get_or, MatchResult};
 ghost use Rattle.texts.specs.Text.{Put};
-ghost use Rattle.registers.specs.Block.{image_bytes};
 ghost use Rattle.answers.specs.Answer.{no_mailbox, packed};
+ghost use Rattle.answers.specs.Refusals.{number_of};
 ghost use Rattle.trace.specs.Trace.{header, refused_line};
 ghost use Rattle.stream.specs.Stream.{at, over, opened, printed, last_line};
-ghost use Rattle.stream.specs.Calls.{state_bytes, state_of, standing, all_zero, ready, against as against_of, prints, fed_call, last_call, Leaves, OpenCall, FeedCall, CloseCall};
-ghost use Rattle.stream.specs.Terms.{standing_by, reader_of, Ready, Clean, Counts, TookSome, at_once, room_for, Fed, Taking, numbers};
+ghost use Rattle.stream.specs.Calls.{state_of, standing, all_zero, ready, prints, fed_call, last_call, Leaves, OpenCall, FeedCall, CloseCall};
+ghost use Rattle.stream.specs.Terms.{standing_by, reader_of, state_against, Ready, Clean, Counts, TookSome, at_once, room_for, Fed, Taking, numbers};
 
+use answers::{NO_MAILBOX, Refusal};
+use events::EventBytes;
+use registers::Image;
 use texts::{put_text, put_word};
 use trace::run_event;
 use trace::text::put_ending;
 
 const STATE_BYTES: usize = 32;
 
+// The bytes in which a stream stands between two calls; a count or an event is gathered in the last 16 of them.
+type State = [u8; STATE_BYTES];
+
 // So many bytes of text are made apart at most: a part of 65 bytes never has more.
 const MADE_BYTES: usize = 96;
 
 // In the place of a section: behind the third, and over.
+// stays: numbers and no enum, since they are the first word of the state bytes that C keeps, and `ready` judges any number there.
 const BEHIND: u32 = 4;
 
 const OVER: u32 = 5;
@@ -34,6 +41,76 @@ pub struct Reader {
     pub left: u32,
     pub steps: u32,
     pub seen: u32,
+}
+
+impl Reader {
+    // Where a section begins, or the reading ends: nothing is read of it.
+    fn start(section: u32) -> Reader
+        ensures { result ≡ record { section = section; left = 0; steps = 0; seen = 0 } }
+    {
+        Reader {
+            section,
+            left: 0,
+            steps: 0,
+            seen: 0,
+        }
+    }
+
+    // A count or an event is complete, and `left` events of the section are left: where none is, the next section's count comes.
+    fn onward(self, left: u32, steps: u32) -> Reader
+        requires { self.section ≤ 3 }
+        ensures { result ≡ record { section = cond (eqb left 0) (self.section + 1) self.section; left = left; steps = steps; seen = 0 } }
+    {
+        Reader {
+            section: bits::choose(left == 0, self.section + 1, self.section),
+            left,
+            steps,
+            seen: 0,
+        }
+    }
+
+    // The same, with so many bytes gathered, and no text.
+    fn wait(self, seen: u32, place: usize) -> Taken
+        ensures { (result.reader ≡ record { section = self.section; left = self.left; steps = self.steps; seen = seen }) × (result.length ≡ place) }
+    {
+        Taken {
+            reader: Reader { seen, ..self },
+            length: place,
+        }
+    }
+
+    // How many bytes are taken at once, of those that are there: what an event lacks, or all; while no event is read, one.
+    fn at_once(self, there: usize) -> usize
+        requires { self.seen ≤ 15 }
+        ensures { result ≡ at_once self.left self.seen there }
+    {
+        if self.left == 0 {
+            return 1;
+        }
+        usize::min(there, 16 - self.seen as usize)
+    }
+
+    // What the first four words of a state say; the bytes behind them are what is gathered.
+    fn load(state: &State) -> Reader
+        ensures { result ≡ reader_of state.now }
+    {
+        Reader {
+            section: words::word_at(state, 0),
+            left: words::word_at(state, 4),
+            steps: words::word_at(state, 8),
+            seen: words::word_at(state, 12),
+        }
+    }
+
+    // The first four words; what is gathered stands behind them already.
+    fn store(self, state: &mut State)
+        ensures { state.new ≡ numbers self (drop 16 state.old) }
+    {
+        let a = put_word(state, 0, self.section);
+        let b = put_word(state, a, self.left);
+        let c = put_word(state, b, self.steps);
+        put_word(state, c, self.seen);
+    }
 }
 
 // A reader, and how many bytes of text there are.
@@ -50,131 +127,75 @@ fn fault(out: &mut [u8], place: usize) -> Taken
     requires { place + 16 ≤ length out.old }
     ensures { (result.reader ≡ record { section = over; left = 0; steps = 0; seen = 0 }) × Put out.old place refused_line out.new result.length }
 {
-    let length = put_text(out, place, b"trace refused 8\n");
     Taken {
-        reader: Reader {
-            section: OVER,
-            left: 0,
-            steps: 0,
-            seen: 0,
-        },
-        length,
+        reader: Reader::start(OVER),
+        length: put_text(out, place, b"trace refused 8\n"),
     }
-}
-
-// A count or an event is complete, and `left` events of the section are left: where none is, the next section's count comes.
-fn onward(section: u32, left: u32, steps: u32) -> Reader
-    requires { section ≤ 3 }
-    ensures { result ≡ record { section = cond (eqb left 0) (section + 1) section; left = left; steps = steps; seen = 0 } }
-{
-    Reader {
-        section: bits::choose(left == 0, section + 1, section),
-        left,
-        steps,
-        seen: 0,
-    }
-}
-
-// The same, with so many bytes gathered.
-fn wait(r: Reader, seen: u32, place: usize) -> Taken
-    ensures { (result.reader ≡ record { section = r.section; left = r.left; steps = r.steps; seen = seen }) × (result.length ≡ place) }
-{
-    Taken {
-        reader: Reader {
-            section: r.section,
-            left: r.left,
-            steps: r.steps,
-            seen,
-        },
-        length: place,
-    }
-}
-
-// What was gathered is done with: only zeros stand behind what is gathered next.
-fn clear(event: &mut [u8])
-    requires { length event.old ≡ 16 }
-    ensures { Clean 0 event.new }
-{
-    let zeros = [0u8; 16];
-    put_text(event, 0, &zeros);
 }
 
 // The bytes of a count, the last of which just came.
-fn count(r: Reader, event: &mut [u8], out: &mut [u8], place: usize) -> Taken
-    requires { (r.section ≤ 3) × (r.seen ≤ 1) × (length event.old ≡ 16) × Clean (r.seen + 1) event.old × (r.seen ≢ 0 → 1000 < get_or event.old 0 0 + 256 * get_or event.old 1 0 → place + 16 ≤ length out.old) }
+fn count(r: Reader, event: &mut EventBytes, out: &mut [u8], place: usize) -> Taken
+    requires { (r.section ≤ 3) × (r.seen ≤ 1) × Clean (r.seen + 1) event.old × (r.seen ≢ 0 → 1000 < get_or event.old 0 0 + 256 * get_or event.old 1 0 → place + 16 ≤ length out.old) }
     ensures { Counts r event.old event.new out.old place out.new result }
 {
     if r.seen == 0 {
-        return wait(r, 1, place);
+        return r.wait(1, place);
     }
+    // stays: `u16::from_le_bytes` would take two casts and an array more.
     let n = words::byte_at(event, 0) + 256 * words::byte_at(event, 1);
-    clear(event);
+    *event = [0; 16];
     if n > 1000 {
         return fault(out, place);
     }
     Taken {
-        reader: onward(r.section, n, r.steps),
+        reader: r.onward(n, r.steps),
         length: place,
     }
 }
 
 // Bytes of an event, as many as it lacks at most. Its first byte says whether it may stand here.
+// stays: six parameters and no struct of them, since reader and place are new after each piece, and the bytes lent would have to be lent on one by one.
 fn gather(
     r: Reader,
-    event: &mut [u8],
-    image: &mut [u8],
+    event: &mut EventBytes,
+    image: &mut Image,
     bytes: &[u8],
     out: &mut [u8],
     place: usize,
 ) -> Taken
-    requires { Ready (standing_by r event.old image.old) × (r.section ≤ 3) × (1 ≤ r.left) × (1 ≤ length bytes.now) × (r.seen + length bytes.now ≤ 16) × (length event.old ≡ 16) × Clean r.seen event.old × (place + length (printed (standing_by r event.old image.old) bytes.now) ≤ length out.old) }
+    requires { Ready (standing_by r event.old image.old) × (r.section ≤ 3) × (1 ≤ r.left) × (1 ≤ length bytes.now) × (r.seen + length bytes.now ≤ 16) × Clean r.seen event.old × (place + length (printed (standing_by r event.old image.old) bytes.now) ≤ length out.old) }
     ensures { TookSome (standing_by r event.old image.old) bytes.now out.old place event.new image.new out.new result }
 {
     let seen = put_text(event, r.seen as usize, bytes);
     if !trace::takes(r.section as usize, event[0] as usize) {
-        clear(event);
+        *event = [0; 16];
         return fault(out, place);
     }
     if seen < 16 {
-        return wait(r, seen as u32, place);
+        return r.wait(seen as u32, place);
     }
     let length = run_event(image, event, out, place, r.steps as u64 + 1);
-    clear(event);
+    *event = [0; 16];
     Taken {
-        reader: onward(r.section, r.left - 1, r.steps + 1),
+        reader: r.onward(r.left - 1, r.steps + 1),
         length,
     }
-}
-
-// How many bytes are taken at once, of those that are there: what an event lacks, or all; while no event is read, one.
-fn at_once(r: Reader, there: usize) -> usize
-    requires { r.seen ≤ 15 }
-    ensures { result ≡ at_once r.left r.seen there }
-{
-    if r.left == 0 {
-        return 1;
-    }
-    let lacks = 16 - r.seen as usize;
-    if there < lacks {
-        return there;
-    }
-    lacks
 }
 
 // As many bytes as are taken at once. Behind the third section one is the fault; once it is over it does nothing.
 fn take_some(
     r: Reader,
-    event: &mut [u8],
-    image: &mut [u8],
+    event: &mut EventBytes,
+    image: &mut Image,
     bytes: &[u8],
     out: &mut [u8],
     place: usize,
 ) -> Taken
-    requires { Ready (standing_by r event.old image.old) × (r.seen + length bytes.now ≤ 16) × (1 ≤ length bytes.now) × (r.left ≡ 0 → length bytes.now ≡ 1) × (length event.old ≡ 16) × Clean r.seen event.old × (place + length (printed (standing_by r event.old image.old) bytes.now) ≤ length out.old) }
+    requires { Ready (standing_by r event.old image.old) × (r.seen + length bytes.now ≤ 16) × (1 ≤ length bytes.now) × (r.left ≡ 0 → length bytes.now ≡ 1) × Clean r.seen event.old × (place + length (printed (standing_by r event.old image.old) bytes.now) ≤ length out.old) }
     ensures { TookSome (standing_by r event.old image.old) bytes.now out.old place event.new image.new out.new result }
 {
     if r.section == OVER {
-        return wait(r, r.seen, place);
+        return r.wait(r.seen, place);
     }
     if r.section == BEHIND {
         return fault(out, place);
@@ -188,91 +209,56 @@ fn take_some(
 
 // ---- a part
 
-// Where a text goes: behind the first `length` bytes, or over them, where none is to be kept.
+// Where a text goes: behind the first `length` bytes, or over them, where none is to be kept. stays a flag: the loop is the same, and but for this place
+// nothing differs.
 fn place_of(keeps: bool, length: usize) -> usize
     ensures { result ≡ cond keeps length 0 }
 {
-    if keeps {
-        return length;
-    }
-    0
+    if keeps { length } else { 0 }
 }
 
 // The bytes of a part, some after the others. Where the text is not to be kept, each piece of it is put over the one before: it is only counted.
 fn take_bytes(
     r: Reader,
-    event: &mut [u8],
-    image: &mut [u8],
+    event: &mut EventBytes,
+    image: &mut Image,
     part: &[u8],
     out: &mut [u8],
     keeps: bool,
 ) -> Taken
-    requires { Ready (standing_by r event.old image.old) × (r.seen ≤ 15) × (length event.old ≡ 16) × Clean r.seen event.old × (room_for keeps (length (printed (standing_by r event.old image.old) part.now)) ≤ length out.old) }
+    requires { Ready (standing_by r event.old image.old) × (r.seen ≤ 15) × Clean r.seen event.old × (room_for keeps (length (printed (standing_by r event.old image.old) part.now)) ≤ length out.old) }
     ensures { Fed keeps (standing_by r event.old image.old) part.now out.old event.new image.new out.new result }
 {
     let mut reader = r;
     let mut length: usize = 0;
-    let mut i: usize = 0;
-    while i < part.len() {
-        let end = i + at_once(reader, part.len() - i);
+    let mut rest = part;
+    // stays: no iterator, since how many bytes come next hangs on the reader that the last ones left (D137).
+    while !rest.is_empty() {
+        let (bytes, behind) = rest.split_at(reader.at_once(rest.len()));
         let place = place_of(keeps, length);
-        let t = take_some(reader, event, image, &part[i..end], out, place);
+        let t = take_some(reader, event, image, bytes, out, place);
         reader = t.reader;
         length += t.length - place;
-        i = end;
+        rest = behind;
     }
     Taken { reader, length }
 }
 
 // ---- the state bytes
 
-// What the first four words say; the bytes behind them are what is gathered.
-fn reader_of(state: &[u8]) -> Reader
-    requires { length state.now ≡ state_bytes }
-    ensures { result ≡ reader_of state.now }
-{
-    Reader {
-        section: words::word_at(state, 0),
-        left: words::word_at(state, 4),
-        steps: words::word_at(state, 8),
-        seen: words::word_at(state, 12),
-    }
-}
-
-// The first four words; what is gathered stands behind them already.
-fn keep(state: &mut [u8], r: Reader)
-    requires { length state.old ≡ state_bytes }
-    ensures { state.new ≡ numbers r (drop 16 state.old) }
-{
-    let a = put_word(state, 0, r.section);
-    let b = put_word(state, a, r.left);
-    let c = put_word(state, b, r.steps);
-    put_word(state, c, r.seen);
-}
-
 // A state in which nothing is read yet, or any more.
-fn restart(state: &mut [u8], section: u32)
-    requires { length state.old ≡ state_bytes }
+fn restart(state: &mut State, section: u32)
     ensures { state.new ≡ state_of (at section 0 0 [] []) }
 {
-    let zeros = [0u8; 32];
-    put_text(state, 0, &zeros);
-    keep(
-        state,
-        Reader {
-            section,
-            left: 0,
-            steps: 0,
-            seen: 0,
-        },
-    );
+    *state = [0; STATE_BYTES];
+    Reader::start(section).store(state);
 }
 
 // Are all bytes of the state zero from `at` on? Word by word, as soon as a word begins there.
-fn is_zero_from(state: &[u8], at: usize) -> bool
-    requires { length state.now ≡ state_bytes }
+fn is_zero_from(state: &State, at: usize) -> bool
     ensures { result ≡ all_zero (drop at state.now) }
 {
+    // stays: by words it is 45 instructions a call where `iter().all` over the bytes is 74, and a feeding asks it each time.
     let mut i = at;
     while i < STATE_BYTES {
         if i % 4 == 0 {
@@ -291,11 +277,10 @@ fn is_zero_from(state: &[u8], at: usize) -> bool
 }
 
 // Over a slow cable: does a call leave such a state, in a stream that is not over?
-fn is_ready(state: &[u8]) -> bool
-    requires { length state.now ≡ state_bytes }
+fn is_ready(state: &State) -> bool
     ensures { result ≡ ready state.now }
 {
-    let r = reader_of(state);
+    let r = Reader::load(state);
     if r.section == 0 {
         return false;
     }
@@ -319,98 +304,97 @@ fn is_ready(state: &[u8]) -> bool
         & is_zero_from(state, 16 + r.seen as usize)
 }
 
-// Over a slow cable: what stands against a feeding or a closing; 0 is nothing.
-fn against(image: &[u8], state: &[u8]) -> u32
-    ensures { result ≡ against_of image.now state.now }
+// Over a slow cable: what stands against a feeding or a closing, where image and state are of their length.
+fn against(state: &State) -> Result<(), Refusal>
+    ensures { MatchResult result (λ _. ready state.now ≡ true) (λ why. number_of why ≡ state_against state.now) }
 {
-    if image.len() != registers::IMAGE_BYTES {
-        return 1;
-    }
-    if state.len() != STATE_BYTES {
-        return 1;
-    }
     if words::word_at(state, 0) == OVER {
-        return 8;
+        return Err(Refusal::NoTrace);
     }
     if !is_ready(state) {
-        return 1;
+        return Err(Refusal::NoModel);
     }
-    0
+    Ok(())
 }
 
 // ---- the calls
 
 // A part, taken by this image and this state. Bytes are gathered in the state itself.
-fn take_part(image: &mut [u8], state: &mut [u8], part: &[u8], out: &mut [u8], keeps: bool) -> Taken
-    requires { (length state.old ≡ state_bytes) × (ready state.old ≡ true) × (room_for keeps (length (printed (standing image.old state.old) part.now)) ≤ length out.old) }
+// stays: the clause on the state, and no type of ready states, since the bytes lent may be left in a state that is over.
+fn take_part(
+    image: &mut Image,
+    state: &mut State,
+    part: &[u8],
+    out: &mut [u8],
+    keeps: bool,
+) -> Taken
+    requires { (ready state.old ≡ true) × (room_for keeps (length (printed (standing image.old state.old) part.now)) ≤ length out.old) }
     ensures { Taking keeps (standing image.old state.old) part.now out.old image.new state.new out.new result }
 {
-    let r = reader_of(state);
-    let p = take_bytes(r, &mut state[16..32], image, part, out, keeps);
-    let next = p.reader;
-    keep(state, next);
+    let r = Reader::load(state);
+    let Some(event) = state.last_chunk_mut() else {
+        unreachable!()
+    };
+    let p = take_bytes(r, event, image, part, out, keeps);
+    p.reader.store(state);
     p
 }
 
 // How long the text of a part is: the part is taken by copies, and nothing is kept.
-fn text_length(image: &[u8], state: &[u8], part: &[u8]) -> usize
-    requires { (length image.now ≡ image_bytes) × (length state.now ≡ state_bytes) × (ready state.now ≡ true) }
+fn text_length(image: &Image, state: &State, part: &[u8]) -> usize
+    requires { ready state.now ≡ true }
     ensures { result ≡ length (printed (standing image.now state.now) part.now) }
 {
-    let mut image_copy = [0u8; registers::IMAGE_BYTES];
-    let mut state_copy = [0u8; 32];
-    put_text(&mut image_copy, 0, image);
-    put_text(&mut state_copy, 0, state);
-    let mut line = [0u8; MADE_BYTES];
-    let p = take_part(&mut image_copy, &mut state_copy, part, &mut line, false);
-    p.length
+    let mut image_copy = *image;
+    let mut state_copy = *state;
+    let mut line = [0; MADE_BYTES];
+    take_part(&mut image_copy, &mut state_copy, part, &mut line, false).length
 }
 
 // The answer of a part that was taken.
+// stays: a number and no Result, since the 8 of a fault comes with the text that was written (document 02, request e).
 fn answer(p: Taken) -> u64
     requires { p.length ≤ 39016 }
     ensures { result ≡ packed (cond (eqb p.reader.section over) 8 0) no_mailbox p.length }
 {
-    let r = p.reader;
-    answers::pack(bits::choose(r.section == OVER, 8, 0), 32, p.length as u32)
+    let refusal = bits::choose(p.reader.section == OVER, Refusal::NoTrace.number(), 0);
+    answers::pack(refusal, NO_MAILBOX, p.length as u32)
 }
 
 // A part whose text fits, taken in place.
-fn take_here(image: &mut [u8], state: &mut [u8], part: &[u8], text: &mut [u8]) -> u64
-    requires { (against_of image.old state.old ≡ 0) × (length (printed (standing image.old state.old) part.now) ≤ length text.old) }
+fn take_here(image: &mut Image, state: &mut State, part: &[u8], text: &mut [u8]) -> u64
+    requires { (ready state.old ≡ true) × (length (printed (standing image.old state.old) part.now) ≤ length text.old) }
     ensures { Leaves (fed_call image.old state.old part.now text.old) image.new state.new text.new result }
 {
     answer(take_part(image, state, part, text, true))
 }
 
 // A short part, whose text is made apart. Where it does not fit, image and state become again what they were.
-fn take_short(image: &mut [u8], state: &mut [u8], part: &[u8], text: &mut [u8]) -> u64
-    requires { (against_of image.old state.old ≡ 0) × (length part.now ≤ 65) }
+fn take_short(image: &mut Image, state: &mut State, part: &[u8], text: &mut [u8]) -> u64
+    requires { (ready state.old ≡ true) × (length part.now ≤ 65) }
     ensures { Leaves (fed_call image.old state.old part.now text.old) image.new state.new text.new result }
 {
-    let mut old_image = [0u8; registers::IMAGE_BYTES];
-    let mut old_state = [0u8; 32];
-    put_text(&mut old_image, 0, image);
-    put_text(&mut old_state, 0, state);
-    let mut made = [0u8; MADE_BYTES];
+    let old_image = *image;
+    let old_state = *state;
+    let mut made = [0; MADE_BYTES];
     let p = take_part(image, state, part, &mut made, true);
     let n = p.length;
     if text.len() < n {
-        put_text(image, 0, &old_image);
-        put_text(state, 0, &old_state);
-        return answers::pack(9, 32, 0);
+        *image = old_image;
+        *state = old_state;
+        return answers::refuse(Refusal::NoRoom);
     }
     put_text(text, 0, &made[..n]);
     answer(p)
 }
 
 // A part of any length: it is taken twice, first to know how long its text is.
-fn take_long(image: &mut [u8], state: &mut [u8], part: &[u8], text: &mut [u8]) -> u64
-    requires { against_of image.old state.old ≡ 0 }
+fn take_long(image: &mut Image, state: &mut State, part: &[u8], text: &mut [u8]) -> u64
+    requires { ready state.old ≡ true }
     ensures { Leaves (fed_call image.old state.old part.now text.old) image.new state.new text.new result }
 {
     if text.len() < text_length(image, state, part) {
-        return answers::pack(9, 32, 0);
+        return answers::refuse(Refusal::NoRoom);
     }
     take_here(image, state, part, text)
 }
@@ -426,8 +410,8 @@ fn is_roomy(part: usize, room: usize) -> bool
 }
 
 // A part that nothing stands against. Where its text does not fit, nothing changes.
-fn take_in(image: &mut [u8], state: &mut [u8], part: &[u8], text: &mut [u8]) -> u64
-    requires { against_of image.old state.old ≡ 0 }
+fn take_in(image: &mut Image, state: &mut State, part: &[u8], text: &mut [u8]) -> u64
+    requires { ready state.old ≡ true }
     ensures { Leaves (fed_call image.old state.old part.now text.old) image.new state.new text.new result }
 {
     if is_roomy(part.len(), text.len()) {
@@ -440,8 +424,8 @@ fn take_in(image: &mut [u8], state: &mut [u8], part: &[u8], text: &mut [u8]) -> 
 }
 
 // The line of the closing.
-fn put_last_line(r: Reader, line: &mut [u8]) -> usize
-    requires { (r.steps ≤ 3000) × (length line.old ≡ 16) }
+fn put_last_line(r: Reader, line: &mut [u8; 16]) -> usize
+    requires { r.steps ≤ 3000 }
     ensures { Put line.old 0 (last_line (at r.section r.left r.steps [] [])) line.new result }
 {
     if r.section == BEHIND {
@@ -451,33 +435,36 @@ fn put_last_line(r: Reader, line: &mut [u8]) -> usize
 }
 
 // The closing of a stream that nothing stands against.
-fn finish(image: &[u8], state: &mut [u8], text: &mut [u8]) -> u64
-    requires { against_of image.now state.old ≡ 0 }
+fn finish(image: &Image, state: &mut State, text: &mut [u8]) -> u64
+    requires { ready state.old ≡ true }
     ensures { Leaves (last_call image.now state.old text.old) image.now state.new text.new result }
 {
-    let r = reader_of(state);
-    let mut line = [0u8; 16];
+    let r = Reader::load(state);
+    let mut line = [0; 16];
     let n = put_last_line(r, &mut line);
     if text.len() < n {
-        return answers::pack(9, 32, 0);
+        return answers::refuse(Refusal::NoRoom);
     }
     restart(state, OVER);
     put_text(text, 0, &line[..n]);
-    answers::pack(bits::choose(r.section == BEHIND, 0, 8), 32, n as u32)
+    answers::pack(
+        bits::choose(r.section == BEHIND, 0, Refusal::NoTrace.number()),
+        NO_MAILBOX,
+        n as u32,
+    )
 }
 
 // The opening of image and state that are of their length.
-fn begin(image: &mut [u8], state: &mut [u8], text: &mut [u8]) -> u64
-    requires { (length image.old ≡ image_bytes) × (length state.old ≡ state_bytes) }
+fn begin(image: &mut Image, state: &mut State, text: &mut [u8]) -> u64
     ensures { Leaves (prints image.old state.old text.old opened header 0) image.new state.new text.new result }
 {
     if text.len() < 24 {
-        return answers::pack(9, 32, 0);
+        return answers::refuse(Refusal::NoRoom);
     }
     fresh::fresh(image, registers::CAN_B);
     restart(state, 1);
     put_text(text, 0, b"step code mailbox count\n");
-    answers::pack(0, 32, 24)
+    answers::pack(0, NO_MAILBOX, 24)
 }
 
 // uint64_t frostsorrel_stream_open(uint8_t *image, size_t image_len, uint8_t *state, size_t state_len,
@@ -490,12 +477,13 @@ pub extern "C" fn frostsorrel_stream_open(
 ) -> u64
     ensures { OpenCall image.old state.old text.old image.new state.new text.new result }
 {
-    if image.len() != registers::IMAGE_BYTES {
-        return answers::pack(1, 32, 0);
-    }
-    if state.len() != STATE_BYTES {
-        return answers::pack(1, 32, 0);
-    }
+    // stays: these two tests in each of the three calls, since a function that lends both on would need a clause as long on what they end as.
+    let Some(image) = image.as_mut_array() else {
+        return answers::refuse(Refusal::NoModel);
+    };
+    let Some(state) = state.as_mut_array() else {
+        return answers::refuse(Refusal::NoModel);
+    };
     begin(image, state, text)
 }
 
@@ -510,11 +498,16 @@ pub extern "C" fn frostsorrel_stream_feed(
 ) -> u64
     ensures { FeedCall image.old state.old part.now text.old image.new state.new text.new result }
 {
-    let refusal = against(image, state);
-    if refusal != 0 {
-        return answers::pack(refusal, 32, 0);
+    let Some(image) = image.as_mut_array() else {
+        return answers::refuse(Refusal::NoModel);
+    };
+    let Some(state) = state.as_mut_array() else {
+        return answers::refuse(Refusal::NoModel);
+    };
+    match against(state) {
+        Err(why) => answers::refuse(why),
+        Ok(()) => take_in(image, state, part, text),
     }
-    take_in(image, state, part, text)
 }
 
 // uint64_t frostsorrel_stream_close(uint8_t *image, size_t image_len, uint8_t *state, size_t state_len,
@@ -527,9 +520,14 @@ pub extern "C" fn frostsorrel_stream_close(
 ) -> u64
     ensures { CloseCall image.old state.old text.old image.new state.new text.new result }
 {
-    let refusal = against(image, state);
-    if refusal != 0 {
-        return answers::pack(refusal, 32, 0);
+    let Some(image) = image.as_mut_array() else {
+        return answers::refuse(Refusal::NoModel);
+    };
+    let Some(state) = state.as_mut_array() else {
+        return answers::refuse(Refusal::NoModel);
+    };
+    match against(state) {
+        Err(why) => answers::refuse(why),
+        Ok(()) => finish(image, state, text),
     }
-    finish(image, state, text)
 }

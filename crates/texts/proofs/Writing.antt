@@ -1,11 +1,12 @@
 -- Texts in lent bytes: what stands where, and what writers in a row promise together.
-use Prim.Native.Nat.{ℕ, ◌+◌, ◌/◌, ◌%◌, ◌≤◌}
+use Prim.Native.Nat.{ℕ, ◌+◌, ◌-◌, ◌/◌, ◌%◌, ◌≤◌}
+use borrow.Rule.Slice.PartMut.{put_mid}
 use mathlib.Core.Path.{◌≡◌, refl, sym, ◌∙◌, ap, ap₂}
 use mathlib.Core.List.{List, [], ◌∷◌, ◌++◌, append_assoc}
 use native.Mathlib.Omega.{arith}
 use native.Mathlib.Numerals.{add-one}
 use lib.ListN.{length, take, drop, set, length-append, length-set, take-append-drop}
-use lib.Seq.{take-suc-set, drop-set-lt, take-append_seam}
+use lib.Seq.{drop-drop, take-suc-set, drop-set-lt, take-append_seam}
 use Rattle.words.specs.Word.{put_word}
 use Rattle.answers.specs.Answer.{no_mailbox, packed, Fitted}
 use Rattle.answers.proofs.Lists.{long_enough}
@@ -43,6 +44,12 @@ written_is (x ∷ t) o at h =
     ∙ ap (λ (p : List ℕ). p ++ (t ++ drop (at + 1 + length t) (set o at x))) e1
     ∙ append_assoc (take at o) (x ∷ []) (t ++ drop (at + 1 + length t) (set o at x))
     ∙ ap (λ (p : List ℕ). take at o ++ (x ∷ (t ++ p))) e2
+
+-- a text that is copied over a part of the bytes as long
+pub copied : (o t x : List ℕ) (at : ℕ) → at + length t ≤ length o → x ≡ t → put_mid at (at + length t - at) o x ≡ written o at t
+copied o t x at h e =
+    let size : at + length t - at ≡ length t = omega arith in
+    rw (size, drop-drop, e) (sym (written_is t o at h))
 
 -- a word is a text of four bytes
 pub written-word : (o : List ℕ) (at v : ℕ) → put_word o at v ≡ written o at (word_bytes v)

@@ -5,6 +5,10 @@ ghost use Rattle.std.specs.Prelude.{◌≡◌, [], ◌∷◌, ◌+◌, ◌/◌, 
 ghost use Rattle.answers.specs.Answer.{Fitted};
 ghost use Rattle.texts.specs.Text.{Put, word_bytes, decimal, field};
 
+use answers::{NO_MAILBOX, Refusal};
+
+// stays: bytes and place are two arguments; as fields of a writer each promise would name both of them, before and after, just the same.
+
 // One byte.
 fn put(out: &mut [u8], at: usize, x: u8) -> usize
     requires { at < length out.old }
@@ -19,13 +23,9 @@ pub fn put_text(out: &mut [u8], at: usize, text: &[u8]) -> usize
     requires { at + length text.now ≤ length out.old }
     ensures { Put out.old at text.now out.new result }
 {
-    let mut place = at;
-    let mut i: usize = 0;
-    while i < text.len() {
-        place = put(out, place, text[i]);
-        i += 1;
-    }
-    place
+    let end = at + text.len();
+    out[at..end].copy_from_slice(text);
+    end
 }
 
 // A word, its low byte first.
@@ -108,8 +108,8 @@ pub fn tell(out: &mut [u8], list: &[u8], count: u32) -> u64
     ensures { Fitted count list.now out.old out.new result }
 {
     if out.len() < list.len() {
-        return answers::pack(9, 32, 0);
+        return answers::refuse(Refusal::NoRoom);
     }
     put_text(out, 0, list);
-    answers::pack(0, 32, count)
+    answers::pack(0, NO_MAILBOX, count)
 }

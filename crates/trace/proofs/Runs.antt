@@ -1,49 +1,33 @@
 -- Laws of the events of a file and of their lines.
 use Prim.Native.Nat.{ℕ, zero, suc, ◌+◌, ◌-◌, ◌*◌, ◌<◌, ◌≤◌}
-use mathlib.Core.Path.{◌≡◌, refl, sym, ◌∙◌, ap}
+use mathlib.Core.Path.{◌≡◌, refl, sym, ◌∙◌, ap, ap₂}
 use mathlib.Core.Bool.{true, ◌&&◌}
 use mathlib.Core.List.{List, [], ◌∷◌, ◌++◌, append_assoc}
 use native.Mathlib.Omega.{arith}
 use lib.Dec.{eqb, leb}
 use lib.ListN.{length, take, drop, get_or, length-append}
 use borrow.Author.Tests.{eqb-true, leb-true}
+use Rattle.std.specs.Simd.{first_chunks}
+use Rattle.std.proofs.lemmas.List.{drop_more, drop_all, drop-drop, drop-take, take-take}
 use Rattle.bits.proofs.Sets.{and_l, and_r}
 use Rattle.model.specs.Step.{step}
 use Rattle.events.specs.Parts.{event_bytes}
 use Rattle.texts.specs.Text.{written, Put}
-use Rattle.trace.specs.Trace.{count_at, end_of, second, third, takes, placed, sound, well_formed, events_from, section, events, line, lines, image_after}
-use Rattle.texts.proofs.Writing.{as_text, kept, onward, behind_both, both_put, room, front}
+use Rattle.trace.specs.Trace.{count_at, end_of, second, third, placed, sound, well_formed, events_from, section, events, line, lines, image_after}
+use Rattle.texts.proofs.Writing.{as_text, onward, behind_both, both_put, room, front}
 
--- ---- one event more
+-- ---- the events of a section
 
-abbrev event_at : List ℕ → ℕ → List ℕ
-event_at f at = take event_bytes (drop at f)
-
-pub events-none : (f : List ℕ) (at left : ℕ) → left ≡ 0 → events_from f at left ≡ []
+-- the events, cut out of the bytes of the file that have them
+pub events-cut : (f : List ℕ) (at n m : ℕ) → m ≡ 16 * n → first_chunks 16 n (take m (drop at f)) ≡ events_from f at n
 unfolding events_from
-events-none f at zero h = refl
-events-none f at (suc n) h = absurd (omega arith)
-
-pub events_more : (f : List ℕ) (at left : ℕ) → 0 < left
-    → events_from f at left ≡ take event_bytes (drop at f) ∷ events_from f (at + 16) (left - 1)
-unfolding events_from
-events_more f at zero h = absurd (omega arith)
-events_more f at (suc n) h =
-    let e : n ≡ suc n - 1 = omega arith in
-    ap (λ (k : ℕ). event_at f at ∷ events_from f (at + 16) k) e
-
-pub placed-none : (k : ℕ) (f : List ℕ) (at left : ℕ) → left ≡ 0 → placed k f at left ≡ true
-unfolding placed
-placed-none k f at zero h = refl
-placed-none k f at (suc n) h = absurd (omega arith)
-
-pub placed_more : (k : ℕ) (f : List ℕ) (at left : ℕ) → 0 < left
-    → placed k f at left ≡ (takes k (get_or f at 0) && placed k f (at + 16) (left - 1))
-unfolding placed
-placed_more k f at zero h = absurd (omega arith)
-placed_more k f at (suc n) h =
-    let e : n ≡ suc n - 1 = omega arith in
-    ap (λ (j : ℕ). takes k (get_or f at 0) && placed k f (at + 16) j) e
+events-cut f at zero m h = refl
+events-cut f at (suc n) m h =
+    let e : m ≡ 16 + (m - 16) = omega arith in
+    let d : drop 16 (take m (drop at f)) ≡ take (m - 16) (drop (at + 16) f) =
+    ap (λ (k : ℕ). drop 16 (take k (drop at f))) e ∙ drop-take 16 (m - 16) (drop at f) ∙ ap (take (m - 16)) (drop-drop 16 at f) in
+    ap₂ (λ (x : List ℕ) (y : List (List ℕ)). x ∷ y) (take-take 16 m (drop at f) (omega arith))
+    (ap (first_chunks 16 n) d ∙ events-cut f (at + 16) n (m - 16) (omega arith))
 
 -- ---- how many
 
@@ -111,155 +95,100 @@ formed f h =
 
 -- ---- the three sections, one behind the other
 
-module _ (f s : List ℕ) where
-  abbrev pub after_one : List ℕ
-  after_one = image_after s (section f 0)
+module _ (a b d : List (List ℕ)) (s : List ℕ) where
+  abbrev lines_one : List ℕ
+  lines_one = lines 1 s a
 
-  abbrev pub after_two : List ℕ
-  after_two = image_after after_one (section f (second f))
+  abbrev lines_two : List ℕ
+  lines_two = lines (1 + length a) (image_after s a) b
 
-  abbrev pub lines_one : List ℕ
-  lines_one = lines 1 s (section f 0)
+  abbrev lines_three : List ℕ
+  lines_three = lines (1 + length a + length b) (image_after (image_after s a) b) d
 
-  abbrev pub lines_two : List ℕ
-  lines_two = lines (1 + count_at f 0) after_one (section f (second f))
+  pub three_runs : lines 1 s (a ++ (b ++ d)) ≡ lines_one ++ (lines_two ++ lines_three)
+  three_runs = lines-append 1 s a (b ++ d) ∙ ap (λ (x : List ℕ). lines_one ++ x) (lines-append (1 + length a) (image_after s a) b d)
 
-  abbrev pub lines_three : List ℕ
-  lines_three = lines (1 + count_at f 0 + count_at f (second f)) after_two (section f (third f))
+-- one section's text and image behind another's
+module _ (a b d : List (List ℕ)) (s o : List ℕ) (at : ℕ) (all : at + length (lines 1 s (a ++ (b ++ d))) ≤ length o) where
+  in_three : at + length (lines_one a b d s ++ (lines_two a b d s ++ lines_three a b d s)) ≤ length o
+  in_three = rw (three_runs a b d s) at all
 
-  pub three_runs : lines 1 s (events f) ≡ lines_one ++ (lines_two ++ lines_three)
-  unfolding events
-  three_runs =
-      let a = section f 0 in
-      let b = section f (second f) in
-      let d = section f (third f) in
-      let na : length a ≡ count_at f 0 = length-events f 2 (count_at f 0) in
-      let nb : length b ≡ count_at f (second f) = length-events f (second f + 2) (count_at f (second f)) in
-      lines-append 1 s a (b ++ d)
-      ∙ ap (λ (x : List ℕ). lines_one ++ x)
-      (ap (λ (k : ℕ). lines (1 + k) after_one (b ++ d)) na
-      ∙ lines-append (1 + count_at f 0) after_one b d
-      ∙ ap (λ (k : ℕ). lines_two ++ lines (1 + count_at f 0 + k) after_two d) nb)
+  pub room_one : at + length (lines 1 s a) ≤ length o
+  room_one = front (lines_one a b d s) (lines_two a b d s ++ lines_three a b d s) at (length o) in_three
 
--- the same lines, by other numbers that are equal
-pub lines_same : (f : List ℕ) {n m : ℕ} {s t : List ℕ} {a b : ℕ} → n ≡ m → s ≡ t → a ≡ b → lines n s (section f a) ≡ lines m t (section f b)
-lines_same f {n} {m} {s} {t} {a} {b} e g h =
-    ap (λ (x : ℕ). lines x s (section f a)) e ∙ ap (λ (x : List ℕ). lines m x (section f a)) g ∙ ap (λ (x : ℕ). lines m t (section f x)) h
+  module _ {o₁ s₁ : List ℕ} {at₁ : ℕ} (p : Put o at (lines 1 s a) o₁ at₁) (i : s₁ ≡ image_after s a) where
+    in_two : at₁ + length (lines_two a b d s ++ lines_three a b d s) ≤ length o₁
+    in_two = room p (lines_two a b d s ++ lines_three a b d s) in_three
 
--- one section's text and image behind another's: from an image that is s, the second section and its number by other names
-module _ (f o : List ℕ) (at : ℕ) {s s₀ : List ℕ} (img : s₀ ≡ s) (all : at + length (lines 1 s (events f)) ≤ length o) where
-  in_three : at + length (lines_one f s ++ (lines_two f s ++ lines_three f s)) ≤ length o
-  in_three = rw (three_runs f s) at all
+    pub room_two : at₁ + length (lines (1 + length a) s₁ b) ≤ length o₁
+    room_two = rw i (front (lines_two a b d s) (lines_three a b d s) at₁ (length o₁) in_two)
 
-  same-one : lines 1 s₀ (section f 0) ≡ lines_one f s
-  same-one = ap (λ (x : List ℕ). lines 1 x (section f 0)) img
+    module _ {o₂ s₂ : List ℕ} {at₂ : ℕ} (q : Put o₁ at₁ (lines (1 + length a) s₁ b) o₂ at₂) (j : s₂ ≡ image_after s₁ b) where
+      put_two : Put o₁ at₁ (lines_two a b d s) o₂ at₂
+      put_two = rw i at q
 
-  pub room_one : at + length (lines 1 s₀ (section f 0)) ≤ length o
-  room_one =
-      omega (arith, ap length same-one, front (lines_one f s) (lines_two f s ++ lines_three f s) at (length o) in_three)
+      image_two : s₂ ≡ image_after (image_after s a) b
+      image_two = j ∙ ap (λ (x : List ℕ). image_after x b) i
 
-  module _ {o₁ s₁ : List ℕ} {at₁ n b : ℕ} (p : Put o at (lines 1 s₀ (section f 0)) o₁ at₁) (i : s₁ ≡ image_after s₀ (section f 0)) (e : n ≡ count_at f 0) (h : b ≡ second f) where
-    put_one : Put o at (lines_one f s) o₁ at₁
-    put_one = as_text same-one p
+      pub room_three : at₂ + length (lines (1 + length a + length b) s₂ d) ≤ length o₂
+      room_three = rw image_two (room put_two (lines_three a b d s) in_two)
 
-    image-one : s₁ ≡ after_one f s
-    image-one = i ∙ ap (λ (x : List ℕ). image_after x (section f 0)) img
+      pub put_three : {o₃ : List ℕ} {at₃ : ℕ} → Put o₂ at₂ (lines (1 + length a + length b) s₂ d) o₃ at₃ → Put o at (lines 1 s (a ++ (b ++ d))) o₃ at₃
+      put_three r = as_text (sym (three_runs a b d s)) (both_put p (both_put put_two (rw image_two at r)))
 
-    same_two_lem : lines (1 + n) s₁ (section f b) ≡ lines_two f s
-    same_two_lem = lines_same f (ap (λ (k : ℕ). 1 + k) e) image-one h
+-- ---- the state of a section that is being run: i of its events have their lines
 
-    in_two : at₁ + length (lines_two f s ++ lines_three f s) ≤ length o₁
-    in_two = room put_one (lines_two f s ++ lines_three f s) in_three
+pub record Going (es : List (List ℕ)) (first : ℕ) (s₀ o₀ : List ℕ) (at : ℕ) (s o : List ℕ) (i place : ℕ) : Type 0 where
+  pub text : written o place (lines (first + i) s (drop i es)) ≡ written o₀ at (lines first s₀ es)
+  pub behind : place + length (lines (first + i) s (drop i es)) ≡ at + length (lines first s₀ es)
+  pub image : image_after s (drop i es) ≡ image_after s₀ es
 
-    pub room_two : at₁ + length (lines (1 + n) s₁ (section f b)) ≤ length o₁
-    room_two = omega (arith, ap length same_two_lem, front (lines_two f s) (lines_three f s) at₁ (length o₁) in_two)
-
-    module _ {o₂ s₂ : List ℕ} {at₂ m d : ℕ} (q : Put o₁ at₁ (lines (1 + n) s₁ (section f b)) o₂ at₂) (j : s₂ ≡ image_after s₁ (section f b)) (g : m ≡ count_at f b) (l : d ≡ end_of f b) where
-      put_two : Put o₁ at₁ (lines_two f s) o₂ at₂
-      put_two = as_text same_two_lem q
-
-      image_two : s₂ ≡ after_two f s
-      image_two = j ∙ ap (λ (x : List ℕ). image_after x (section f b)) image-one ∙ ap (λ (k : ℕ). image_after (after_one f s) (section f k)) h
-
-      same_three : lines (1 + n + m) s₂ (section f d) ≡ lines_three f s
-      same_three =
-          lines_same f (ap (λ (k : ℕ). 1 + k + m) e ∙ ap (λ (k : ℕ). 1 + count_at f 0 + k) (g ∙ ap (count_at f) h)) image_two (l ∙ ap (end_of f) h)
-
-      pub room_three : at₂ + length (lines (1 + n + m) s₂ (section f d)) ≤ length o₂
-      room_three = omega (arith, ap length same_three, room put_two (lines_three f s) in_two)
-
-      pub put_three : {o₃ : List ℕ} {at₃ : ℕ} → Put o₂ at₂ (lines (1 + n + m) s₂ (section f d)) o₃ at₃ → Put o at (lines 1 s (events f)) o₃ at₃
-      put_three r = as_text (sym (three_runs f s)) (both_put put_one (both_put put_two (as_text same_three r)))
-
--- ---- the state of a section that is being run
-
-pub record Going (f : List ℕ) (start first : ℕ) (s₀ o₀ : List ℕ) (at : ℕ) (s o : List ℕ) (from left place number : ℕ) : Type 0 where
-  pub text : written o place (lines number s (events_from f from left)) ≡ written o₀ at (lines first s₀ (section f start))
-  pub behind : place + length (lines number s (events_from f from left)) ≡ at + length (lines first s₀ (section f start))
-  pub image : image_after s (events_from f from left) ≡ image_after s₀ (section f start)
-  pub out_length : length o ≡ length o₀
-  pub image-length : length s ≡ length s₀
-  pub ends : from + 16 * left ≡ end_of f start
-  pub few : number + left ≤ 8589934592
-
-module _ (f s o : List ℕ) (start first at : ℕ) where
-  -- before the first event
-  pub begun : (n : ℕ) → n ≡ count_at f start → n < 65536 → first < 4294967296 → Going f start first s o at s o (start + 2) n at first
-  unfolding end_of
-  begun n e h l = record {
-    text = ap (λ (k : ℕ). written o at (lines first s (events_from f (start + 2) k))) e;
-    behind = ap (λ (k : ℕ). at + length (lines first s (events_from f (start + 2) k))) e;
-    image = ap (λ (k : ℕ). image_after s (events_from f (start + 2) k)) e;
-    out_length = refl;
-    image-length = refl;
-    ends = omega arith;
-    few = omega arith;
-  }
-
-module _ {f : List ℕ} {start first : ℕ} {s₀ o₀ : List ℕ} {at : ℕ} {s o : List ℕ} {from left place number : ℕ} (g : Going f start first s₀ o₀ at s o from left place number) where
+module _ {es : List (List ℕ)} {first : ℕ} {s₀ o₀ : List ℕ} {at : ℕ} {s o : List ℕ} {i place : ℕ} (g : Going es first s₀ o₀ at s o i place) where
   -- behind the last
-  pub ended : left ≡ 0 → (Put o₀ at (lines first s₀ (section f start)) o place) × (s ≡ image_after s₀ (section f start))
+  pub ended : length es ≤ i → Put o₀ at (lines first s₀ es) o place × (s ≡ image_after s₀ es)
   unfolding written lines image_after
   ended z =
-      let n = events-none f from left z in (
+      let n : drop i es ≡ [] = drop_all i es z in (
         record {
-          bytes = sym (ap (λ (l : List (List ℕ)). written o place (lines number s l)) n) ∙ g.text;
-          behind = omega (arith, ap (λ (l : List (List ℕ)). length (lines number s l)) n, g.behind);
+          bytes = sym (ap (λ (l : List (List ℕ)). written o place (lines (first + i) s l)) n) ∙ g.text;
+          behind = omega (arith, ap (λ (l : List (List ℕ)). length (lines (first + i) s l)) n, g.behind);
         },
         sym (ap (image_after s) n) ∙ g.image,
       )
 
-  -- one event, e
-  module _ (h : 0 < left) (e : List ℕ) (k : e ≡ take 16 (drop from f)) where
-    abbrev rest : List (List ℕ)
-    rest = events_from f (from + 16) (left - 1)
+  -- one event more
+  module _ (h : i < length es) where
+    abbrev event : List ℕ
+    event = get_or es i []
 
     abbrev rest_lines : List ℕ
-    rest_lines = lines (number + 1) (step s e).image rest
+    rest_lines = lines (first + (i + 1)) (step s event).image (drop (i + 1) es)
 
-    one_more : events_from f from left ≡ e ∷ rest
-    one_more = events_more f from left h ∙ ap (λ (x : List ℕ). x ∷ rest) (sym k)
+    one_more : drop i es ≡ event ∷ drop (i + 1) es
+    one_more = drop_more es i [] h
 
-    its_lines : lines number s (events_from f from left) ≡ line number (step s e) ++ rest_lines
-    its_lines = ap (lines number s) one_more ∙ lines_cons number s e rest
+    its_lines : lines (first + i) s (drop i es) ≡ line (first + i) (step s event) ++ rest_lines
+    its_lines =
+        let e : first + i + 1 ≡ first + (i + 1) = omega arith in
+        ap (lines (first + i) s) one_more
+        ∙ lines_cons (first + i) s event (drop (i + 1) es)
+        ∙ ap (λ (k : ℕ). line (first + i) (step s event) ++ lines k (step s event).image (drop (i + 1) es)) e
 
     -- the room for its line
-    pub its_room : at + length (lines first s₀ (section f start)) ≤ length o₀ → place + length (line number (step s e)) ≤ length o
-    its_room l = omega (arith, ap length its_lines, length-append (line number (step s e)) rest_lines, g.behind, g.out_length)
+    pub its_room : length o ≡ length o₀ → at + length (lines first s₀ es) ≤ length o₀ → place + length (line (first + i) (step s event)) ≤ length o
+    its_room e l = omega (arith, ap length its_lines, length-append (line (first + i) (step s event)) rest_lines, g.behind)
 
     -- and what is then left
-    pub turned : {s' o' : List ℕ} {place' : ℕ} → Put o place (line number (step s e)) o' place' → s' ≡ (step s e).image → length s' ≡ length s
-        → Going f start first s₀ o₀ at s' o' (from + 16) (left - 1) place' (number + 1)
-    turned {s'} {o'} {place'} p i n =
-        let j : lines (number + 1) s' rest ≡ rest_lines = ap (λ (x : List ℕ). lines (number + 1) x rest) i in
+    pub turned : {s' o' : List ℕ} {place' : ℕ} → Put o place (line (first + i) (step s event)) o' place' → s' ≡ (step s event).image → Going es first s₀ o₀ at s' o' (i + 1) place'
+    turned {s'} {o'} {place'} p k =
+        let j : lines (first + (i + 1)) s' (drop (i + 1) es) ≡ rest_lines = ap (λ (x : List ℕ). lines (first + (i + 1)) x (drop (i + 1) es)) k in
         record {
           text = ap (written o' place') j ∙ onward p rest_lines ∙ sym (ap (written o place) its_lines) ∙ g.text;
           behind = omega (arith, ap length j, behind_both p rest_lines, ap length its_lines, g.behind);
-          image = ap (λ (x : List ℕ). image_after x rest) i ∙ sym (ap (image_after s) one_more ∙ after-cons s e rest) ∙ g.image;
-          out_length = kept p ∙ g.out_length;
-          image-length = n ∙ g.image-length;
-          ends = omega (arith, g.ends);
-          few = omega (arith, g.few);
+          image =
+              ap (λ (x : List ℕ). image_after x (drop (i + 1) es)) k
+              ∙ sym (ap (image_after s) one_more ∙ after-cons s event (drop (i + 1) es))
+              ∙ g.image;
         }
 
 -- ---- where the sections of a well-formed file end

@@ -1,35 +1,27 @@
 // The trace program's library: a trace file in, its listing out.
 #![tactic(auto)]
 
-ghost use Rattle.std.specs.Prelude.{◌≡◌, true, ◌+◌, ◌*◌, ◌%◌, ◌<◌, ◌≤◌, length, get_or};
+ghost use Rattle.std.specs.Prelude.{◌≡◌, true, ◌+◌, ◌*◌, ◌%◌, ◌<◌, ◌≤◌, ◌++◌, length, get_or};
 ghost use Rattle.model.specs.Step.{step as step_of};
 ghost use Rattle.registers.specs.Block.{can_b};
 ghost use Rattle.fresh.specs.Fresh.{fresh_image};
 ghost use Rattle.texts.specs.Text.{Put};
-ghost use Rattle.trace.specs.Trace.{count_at, end_of, second, third, takes as takes_of, placed, sound, well_formed, section, events, line, lines, image_after, run as run_of, longest, Listed};
+ghost use Rattle.trace.specs.Trace.{count_at, end_of, second, third, takes as takes_of, placed, sound, well_formed, section as section_of, events, line, lines, image_after, run as run_of, longest, Listed};
 
 pub mod text;
 
+use registers::Image;
 use text::{put_ending, put_line};
 use texts::put_text;
 
 // So many bytes have room for any listing.
 pub const LONGEST: usize = 39033;
 
-fn wide(x: u8) -> usize
-    ensures { result ≡ x }
-{
-    x as usize
-}
-
 // A byte of the file; 0 past its end.
 fn byte_at(file: &[u8], at: usize) -> usize
     ensures { (result ≡ get_or file.now at 0) × (result < 256) }
 {
-    if at < file.len() {
-        return wide(file[at]);
-    }
-    0
+    file.get(at).map_or(0, |&x| usize::from(x))
 }
 
 // The count that a section begins with.
@@ -49,27 +41,19 @@ fn end_of(file: &[u8], at: usize) -> usize
 }
 
 // Does the k-th section take this operation?
+// stays with numbers: public, for any k and any byte of a file (`takes` in specs/Trace.antt), and the stream asks it by what it has loaded.
 pub fn takes(k: usize, op: usize) -> bool
     ensures { result ≡ takes_of k op }
 {
     (k == 3) | ((k == 1) & (op == 1) | (k == 2) & ((op == 0) | (op == 9)))
 }
 
-// Are n events from `from` on in their place in the k-th section?
+// Are n events from `from` on in their place in the k-th section? Past the file's end a byte counts as 0, so they need not be in it.
 fn is_placed(k: usize, file: &[u8], from: usize, n: usize) -> bool
     requires { (from < 8589934592) × (n < 65536) }
     ensures { result ≡ placed k file.now from n }
 {
-    let mut at = from;
-    let mut left = n;
-    while left > 0 {
-        if !takes(k, byte_at(file, at)) {
-            return false;
-        }
-        at += 16;
-        left -= 1;
-    }
-    true
+    (0..n).all(|i| takes(k, byte_at(file, from + 16 * i)))
 }
 
 // Is the section at `at` a k-th one?
@@ -82,6 +66,7 @@ fn is_sound(k: usize, file: &[u8], at: usize) -> bool
 }
 
 // Is the file a trace? It is judged whole before anything is listed.
+// stays a bool: public, and promised as `well_formed`; the refusal that it stands for has one line and no reason to tell.
 pub fn is_trace(file: &[u8]) -> bool
     ensures { result ≡ well_formed file.now }
 {
@@ -95,6 +80,8 @@ pub fn is_trace(file: &[u8]) -> bool
 }
 
 // One event: its step, and its line, refused or not.
+// stays with slices: public, for lent bytes of any length; the stream calls it with the image and the event that C lent. The
+// step's answer is C's packed number.
 pub fn run_event(image: &mut [u8], event: &[u8], out: &mut [u8], at: usize, number: u64) -> usize
     requires { at + length (line number (step_of image.old event.now)) ≤ length out.old }
     ensures { (Put out.old at (line number (step_of image.old event.now)) out.new result) × (image.new ≡ (step_of image.old event.now).image) }
@@ -110,63 +97,78 @@ pub fn run_event(image: &mut [u8], event: &[u8], out: &mut [u8], at: usize, numb
     )
 }
 
-// The events of the section that begins at `start`, numbered on from `first`.
+// The events of the section that begins at `start`.
+fn section(file: &[u8], start: usize) -> &[[u8; 16]]
+    requires { (end_of file.now start ≤ length file.now) × (start < 4294967296) }
+    ensures { (result.now ≡ section_of file.now start) × (length result.now ≡ count_at file.now start) }
+{
+    let (events, _) = file[start + 2..end_of(file, start)].as_chunks::<16>();
+    events
+}
+
+// The events of a trace, by its three sections.
+#[derive(Clone, Copy)]
+struct Sections<'a> {
+    first: &'a [[u8; 16]],
+    second: &'a [[u8; 16]],
+    third: &'a [[u8; 16]],
+    ghost few: { length first.now + (length second.now + length third.now) ≤ 3000 },
+}
+
+impl<'a> Sections<'a> {
+    // Those of a file that is a trace.
+    fn of(file: &'a [u8]) -> Sections<'a>
+        requires { well_formed file.now ≡ true }
+        ensures { result.first.now ++ (result.second.now ++ result.third.now) ≡ events file.now }
+    {
+        let second = end_of(file, 0);
+        let third = end_of(file, second);
+        Sections {
+            first: section(file, 0),
+            second: section(file, second),
+            third: section(file, third),
+        }
+    }
+
+    // How many events they have.
+    fn count(self) -> u64
+        ensures { result ≡ length (self.entry.first.now ++ (self.entry.second.now ++ self.entry.third.now)) }
+    {
+        (self.first.len() + self.second.len() + self.third.len()) as u64
+    }
+}
+
+// The events of a section, numbered on from `first`.
 fn run_section(
-    image: &mut [u8],
-    file: &[u8],
-    start: usize,
+    image: &mut Image,
+    events: &[[u8; 16]],
     out: &mut [u8],
     at: usize,
     first: u64,
 ) -> usize
-    requires { (end_of file.now start ≤ length file.now) × (first < 4294967296) × (start < 4294967296) × (at + length (lines first image.old (section file.now start)) ≤ length out.old) }
-    ensures { (Put out.old at (lines first image.old (section file.now start)) out.new result) × (image.new ≡ image_after image.old (section file.now start)) }
+    requires { (length events.now ≤ 3000) × (first ≤ 3001) × (at + length (lines first image.old events.now) ≤ length out.old) }
+    ensures { Put out.old at (lines first image.old events.now) out.new result × (image.new ≡ image_after image.old events.now) }
 {
-    let mut from = start + 2;
-    let mut left = count_at(file, start);
     let mut place = at;
-    let mut number = first;
-    while left > 0 {
-        let end = from + 16;
-        place = run_event(image, &file[from..end], out, place, number);
-        from = end;
-        number += 1;
-        left -= 1;
+    for (i, event) in events.iter().enumerate() {
+        place = run_event(image, event, out, place, first + i as u64);
     }
     place
 }
 
 // All three sections, from a fresh model on.
-fn run_all(file: &[u8], out: &mut [u8], at: usize) -> usize
-    requires { (well_formed file.now ≡ true) × (at + length (lines 1 (fresh_image can_b) (events file.now)) ≤ length out.old) }
-    ensures { Put out.old at (lines 1 (fresh_image can_b) (events file.now)) out.new result }
+fn run_all(trace: Sections, out: &mut [u8], at: usize) -> usize
+    requires { at + length (lines 1 (fresh_image can_b) (trace.first.now ++ (trace.second.now ++ trace.third.now))) ≤ length out.old }
+    ensures { Put out.old at (lines 1 (fresh_image can_b) (trace.entry.first.now ++ (trace.entry.second.now ++ trace.entry.third.now))) out.new result }
 {
+    // stays an array of zeros that is filled in: document 01's form of a fresh model
     let mut image = [0u8; 776];
     fresh::fill_registers(&mut image, registers::CAN_B);
-    let second = end_of(file, 0);
-    let third = end_of(file, second);
-    let first_count = count_at(file, 0) as u64;
-    let second_count = count_at(file, second) as u64;
-    let a = run_section(&mut image, file, 0, out, at, 1);
-    let b = run_section(&mut image, file, second, out, a, 1 + first_count);
-    run_section(
-        &mut image,
-        file,
-        third,
-        out,
-        b,
-        1 + first_count + second_count,
-    )
-}
-
-// How many events the file has.
-fn event_count(file: &[u8]) -> u64
-    ensures { result ≡ length (events file.now) }
-{
-    let second = end_of(file, 0);
-    let third = end_of(file, second);
-    let total = count_at(file, 0) + (count_at(file, second) + count_at(file, third));
-    total as u64
+    let second = 1 + trace.first.len() as u64;
+    let third = second + trace.second.len() as u64;
+    let a = run_section(&mut image, trace.first, out, at, 1);
+    let b = run_section(&mut image, trace.second, out, a, second);
+    run_section(&mut image, trace.third, out, b, third)
 }
 
 // The listing of a file that is a trace.
@@ -174,13 +176,15 @@ fn list_trace(file: &[u8], out: &mut [u8]) -> usize
     requires { (well_formed file.now ≡ true) × (longest ≤ length out.old) }
     ensures { Put out.old 0 (run_of file.now) out.new result }
 {
+    let trace = Sections::of(file);
     let a = put_text(out, 0, b"step code mailbox count\n");
-    let b = run_all(file, out, a);
-    put_ending(out, b, event_count(file))
+    let b = run_all(trace, out, a);
+    put_ending(out, b, trace.count())
 }
 
 // The listing of any file, in lent bytes: it answers how many it wrote. Where there are fewer than LONGEST it writes nothing
 // and answers 0.
+// stays 0, no Option: `frostsorrel_listing` gives C this answer (`Listed`).
 pub fn list(file: &[u8], out: &mut [u8]) -> usize
     ensures { Listed file.now out.old out.new result }
 {

@@ -1,4 +1,5 @@
 // The lines of a listing, put into lent bytes; each function answers the place behind what it wrote.
+// stays two parameters, the bytes and the place: `texts::put_text` and `put_field` have them, and `Put` speaks of them one by one.
 ghost use Rattle.std.specs.Prelude.{◌+◌, ◌≤◌, length};
 ghost use Rattle.texts.specs.Text.{Put};
 ghost use Rattle.trace.specs.Trace.{line_of, ending};

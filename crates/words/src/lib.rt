@@ -2,27 +2,14 @@
 #![tactic(auto)]
 
 ghost use Rattle.std.specs.Prelude.{◌≡◌, ◌+◌, ◌*◌, ◌<◌, ◌≤◌, length, get_or};
-ghost use Rattle.words.specs.Word.{word_at, put_word, words_of, put_words};
-
-// The number of four bytes, lowest first.
-fn join(a: u8, b: u8, c: u8, d: u8) -> u32
-    ensures { result ≡ a + 256 * b + 65536 * c + 16777216 * d }
-{
-    a as u32 + 256 * (b as u32) + 65536 * (c as u32) + 16777216 * (d as u32)
-}
-
-fn wide(x: u8) -> u32
-    ensures { result ≡ x }
-{
-    x as u32
-}
+ghost use Rattle.words.specs.Word.{word_at, put_word, long_at, put_long, words_of, put_words};
 
 // The byte at `at`, as a number of 32 bits.
 pub fn byte_at(s: &[u8], at: usize) -> u32
     requires { at < length s.now }
     ensures { result ≡ get_or s.now at 0 }
 {
-    wide(s[at])
+    u32::from(s[at])
 }
 
 // The word whose lowest byte is at `at`.
@@ -30,7 +17,7 @@ pub fn word_at(s: &[u8], at: usize) -> u32
     requires { at + 4 ≤ length s.now }
     ensures { result ≡ word_at s.now at }
 {
-    join(s[at], s[at + 1], s[at + 2], s[at + 3])
+    u32::from_le_bytes([s[at], s[at + 1], s[at + 2], s[at + 3]])
 }
 
 // The word v, put at `at`.
@@ -38,34 +25,44 @@ pub fn put_word(s: &mut [u8], at: usize, v: u32)
     requires { at + 4 ≤ length s.old }
     ensures { s.new ≡ put_word s.old at v }
 {
-    s[at] = (v % 256) as u8;
-    s[at + 1] = (v / 256 % 256) as u8;
-    s[at + 2] = (v / 65536 % 256) as u8;
-    s[at + 3] = (v / 16777216 % 256) as u8;
+    s[at..at + 4].copy_from_slice(&v.to_le_bytes());
 }
 
-// 28 words in a row, the first at `at`.
-pub fn load_words(s: &[u8], at: usize) -> [u32; 28]
-    requires { at + 112 ≤ length s.now }
-    ensures { result ≡ words_of s.now at 28 }
+// Two words in a row as one number, the first lowest.
+pub fn long_at(s: &[u8], at: usize) -> u64
+    requires { at + 8 ≤ length s.now }
+    ensures { result ≡ long_at s.now at }
 {
-    let mut row = [0u32; 28];
-    let mut i: usize = 0;
-    while i < 28 {
-        row[i] = word_at(s, at + 4 * i);
-        i += 1;
+    u64::from(word_at(s, at)) + 4294967296 * u64::from(word_at(s, at + 4))
+}
+
+// A number put as two words in a row, the lower one first.
+pub fn put_long(s: &mut [u8], at: usize, v: u64)
+    requires { at + 8 ≤ length s.old }
+    ensures { s.new ≡ put_long s.old at v }
+{
+    put_word(s, at, (v % 4294967296) as u32);
+    put_word(s, at + 4, (v / 4294967296) as u32);
+}
+
+// N words in a row, the first at `at`.
+pub fn load_words<const N: usize>(s: &[u8], at: usize) -> [u32; N]
+    requires { at + 4 * N ≤ length s.now }
+    ensures { result ≡ words_of s.now at N }
+{
+    let mut row = [0u32; N];
+    for (i, word) in row.iter_mut().enumerate() {
+        *word = word_at(s, at + 4 * i);
     }
     row
 }
 
-// 28 words in a row, put from `at` on.
-pub fn put_words(s: &mut [u8], at: usize, row: [u32; 28])
-    requires { at + 112 ≤ length s.old }
-    ensures { s.new ≡ put_words s.old at row }
+// N words in a row, put from `at` on.
+pub fn put_words<const N: usize>(s: &mut [u8], at: usize, row: [u32; N])
+    requires { at + 4 * N ≤ length s.old }
+    ensures { s.new ≡ put_words s.old at row.entry }
 {
-    let mut i: usize = 0;
-    while i < 28 {
-        put_word(s, at + 4 * i, row[i]);
-        i += 1;
+    for (i, word) in row.iter().enumerate() {
+        put_word(s, at + 4 * i, *word);
     }
 }

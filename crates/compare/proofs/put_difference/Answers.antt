@@ -22,7 +22,7 @@ pub put_entry-requires : goal.put_entry-requires
 put_entry-requires c =
     let a = c.args in
     let e = word-other a.first.now a.second.now a.k c.word_at-x.ensures c.word_at-y.ensures (λ q. omega arith) in
-    let f : a.at + length (list_bytes (difference a.first.now a.second.now a.k)) ≤ length a.list.now = c.requires.3 in
+    let f : a.at + length (list_bytes (difference a.first.now a.second.now a.k)) ≤ length a.list.now = c.requires.1 in
     let n = length_list (difference a.first.now a.second.now a.k) ∙ ap (λ (l : List Entry). 12 * length l) e in
     let g : a.at + 12 ≤ length a.list.now = omega arith in
     g

@@ -26,7 +26,7 @@ apart c = front_of (omega (arith, list_long (first c) (second c), list_most (fir
 
 pub put_list-end-requires : goal.put_list-end-requires
 put_list-end-requires c =
-    (c.requires.0, c.requires.1, omega (arith, list_most c.args.first.now c.args.second.now))
+    omega (arith, list_most c.args.first.now c.args.second.now)
 
 pub slice_bounds-apart-end : goal.slice_bounds-apart-end
 slice_bounds-apart-end c =

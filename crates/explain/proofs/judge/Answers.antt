@@ -5,7 +5,7 @@ use native.Mathlib.Omega.{arith}
 use Rattle.bits.specs.Bit.{bit}
 use Rattle.explain.specs.declared.Reason.TheVariants.{BitDiffers}
 use Rattle.explain.specs.Explain.{bit_reason}
-use Rattle.explain.proofs.Reasons.{by_highest, by_ide, by_bits, by_none}
+use Rattle.explain.proofs.Reasons.{by_highest, by_bits, by_none}
 use Rattle.explain.proofs.judge.Goals.{After-highest, After-if}
 use Rattle.explain.proofs.judge.Goals as goal
 
@@ -19,9 +19,6 @@ named c =
 
 pub returns-then-differing-eq0 : goal.returns-then-differing-eq0
 returns-then-differing-eq0 c = let a = c.args in c.matched.ensures ∙ sym (by_none a.passes a.differing c.if-differing-eq0.true)
-
-pub returns-then-test : goal.returns-then-test
-returns-then-test c = sym (by_ide c.args.passes (bit c.args.differing) (sym c.test.ensures ∙ c.if-test.true))
 
 pub overflow_cast-result : goal.overflow_cast-result
 overflow_cast-result c = let l = (named (goal.at.overflow_cast-result c).After-highest).0 in omega arith

@@ -1,4 +1,4 @@
-use Prim.Native.Nat.{ℕ, ◌-◌, ◌<◌, ◌≤◌}
+use Prim.Native.Nat.{ℕ, ◌<◌}
 use mathlib.Core.Path.{◌≡◌}
 use mathlib.Core.Bool.{false}
 use Rattle.texts.specs.Text.{Put}
@@ -11,9 +11,5 @@ use Rattle.explain.proofs.put_lines.Given as goal
 
 abbrev pub invariant-loop-k : goal.invariant-loop-k
 invariant-loop-k l =
-    Put l.initial.list 0 (list_bytes (lines_below (seat (block_of l.s)) (reason_by l.s l.f) l.k)) l.list l.at
-    × (l.k ≤ 32)
-    × ((j : ℕ) → j < l.k → matched_at (seat (block_of l.s)) (reason_by l.s l.f) j ≡ false)
-
-abbrev pub decreases-loop-k : goal.decreases-loop-k
-decreases-loop-k l = 32 - l.k
+    Put l.initial.list 0 (list_bytes (lines_below (seat (block_of l.m.image.now)) (reason_by l.m.image.now l.f) l.k)) l.list l.at
+    × ((j : ℕ) → j < l.k → matched_at (seat (block_of l.m.image.now)) (reason_by l.m.image.now l.f) j ≡ false)

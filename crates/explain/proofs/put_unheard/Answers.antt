@@ -1,17 +1,12 @@
 use Prim.Native.Nat.{ℕ}
 use mathlib.Core.Path.{sym, ◌∙◌, ap}
 use mathlib.Core.Bool.{Bool, cond}
-use native.Mathlib.Omega.{arith}
 use Rattle.registers.specs.Status.{bus_off}
 use Rattle.texts.proofs.Writing.{as_text}
 use Rattle.explain.specs.declared.Reason.TheVariants.{NotHeard}
 use Rattle.explain.specs.Explain.{line_bytes}
-use Rattle.explain.proofs.Lines.{unheard-bytes, state-small}
+use Rattle.explain.proofs.Lines.{unheard-bytes}
 use Rattle.explain.proofs.put_unheard.Goals as goal
-
-pub overflow_cast-state : goal.overflow_cast-state
-overflow_cast-state c =
-    omega (arith, c.choose-state.ensures, state-small c.is_bus_off.result c.args.b.mode c.requires.0)
 
 pub returns : goal.returns
 returns c =

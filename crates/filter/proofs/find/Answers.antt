@@ -14,12 +14,12 @@ use Rattle.filter.proofs.find.Goals.{After-turned-pool, Else-rest-eq0, Joined-re
 use Rattle.filter.proofs.find.Goals as goal
 
 -- bit k of the turned candidates is that of the mailbox at place k
-pooled : (c : After-turned-pool) → (k : ℕ) → k < 32 → bit c.turned-pool.result k ≡ compared_at c.args.s.now c.args.f k
+pooled : (c : After-turned-pool) → (k : ℕ) → k < 32 → bit c.turned-pool.result k ≡ compared_at c.args.m.image.now c.args.f k
 pooled c k h =
     let a = c.args in
     c.turned-pool.ensures k h
-    ∙ ap (λ (x : ℕ). bit x (seat a.b k)) c.candidates.ensures
-    ∙ ap (λ (x : Block). bit (candidates x a.f) (seat x k)) c.requires.1
+    ∙ ap (λ (x : ℕ). bit x (seat a.m.block k)) c.candidates.ensures
+    ∙ ap (λ (x : Block). bit (candidates x a.f) (seat x k)) a.m.of_image
 
 -- where something is left, k is a place before the last
 more : (c : Else-rest-eq0) → c.loop-rest.k < last_mailbox
@@ -28,22 +28,21 @@ more c =
     rest_more last_mailbox c.turned-pool.result l.k (λ z. c.if-rest-eq0.false (l.invariant.0 ∙ z))
 
 -- place k is passed
-first : (c : Joined-rest-eq1) → Walked c.args.s.now c.args.f c.turned-pool.result (c.loop-rest.k + 1) c.if-rest-eq1.count
+first : (c : Joined-rest-eq1) → Walked c.args.m.image.now c.args.f c.turned-pool.result (c.loop-rest.k + 1) c.if-rest-eq1.count
 first c =
     let l = c.loop-rest in
     let a = c.args in
-    let p = c.requires in
     let g = c.turned-pool.result in
     let e = pooled (goal.at.Joined-rest-eq1 c).After-turned-pool in
     let t = bit-here last_mailbox g l.rest l.k l.invariant.0 in
     elim c.if-rest-eq1.branch [
       | then-rest-eq1+else-takes w ↦
-          subst (Walked a.s.now a.f g (l.k + 1)) (sym w.count-is)
-          (passes_by a.s.now a.f a.b p.1 g e l.k l.count l.invariant.1
+          subst (Walked a.m.image.now a.f g (l.k + 1)) (sym w.count-is)
+          (passes_by a.m.image.now a.f a.m.block a.m.of_image g e l.k l.count l.invariant.1
           (sym t ∙ eq-eqb _ _ w.if-rest-eq1.true) (sym w.takes.ensures ∙ w.if-takes.false))
       | else-rest-eq1 w ↦
-          subst (Walked a.s.now a.f g (l.k + 1)) (sym w.count-is)
-          (passes_over a.s.now a.f a.b p.1 g e l.k l.count l.invariant.1
+          subst (Walked a.m.image.now a.f g (l.k + 1)) (sym w.count-is)
+          (passes_over a.m.image.now a.f a.m.block a.m.of_image g e l.k l.count l.invariant.1
           (sym t ∙ ne_eqb _ _ w.if-rest-eq1.false))
     ]
 
@@ -55,16 +54,13 @@ pub last-requires : goal.last-requires
 last-requires c =
     let l = c.loop-rest in
     let a = c.args in
-    let p = c.requires in
     let g = c.turned-pool.result in
     let e = pooled (goal.at.last-requires c).After-turned-pool in
     let z = sym l.invariant.0 ∙ c.if-rest-eq0.true in (
-      p.0,
-      p.1,
-      p.2,
+      c.requires,
       e,
-      walk_counted a.s.now a.f a.b p.1 g e l.k l.count l.invariant.1 z,
-      walk_none a.s.now a.f a.b p.1 g e l.k l.count l.invariant.1 z,
+      walk_counted a.m.image.now a.f a.m.block a.m.of_image g e l.k l.count l.invariant.1 z,
+      walk_none a.m.image.now a.f a.m.block a.m.of_image g e l.k l.count l.invariant.1 z,
     )
 
 pub overflow_add-count : goal.overflow_add-count
@@ -104,20 +100,19 @@ pub loop-rest-preserved : goal.loop-rest-preserved
 loop-rest-preserved c =
     let l = c.loop-rest in
     let a = c.args in
-    let p = c.requires in
     let g = c.turned-pool.result in
     let e = pooled (goal.at.loop-rest-preserved c).After-turned-pool in
     let t = bit-after last_mailbox g l.rest l.k l.invariant.0 in (
       both_passed last_mailbox g l.rest l.k l.invariant.0,
-      subst (λ (m : ℕ). Walked a.s.now a.f g m c.if-rest-eq1-2.count) (add_assoc l.k 1 1)
+      subst (λ (m : ℕ). Walked a.m.image.now a.f g m c.if-rest-eq1-2.count) (add_assoc l.k 1 1)
           (elim c.if-rest-eq1-2.branch [
             | then-rest-eq1-2+else-takes-2 w ↦
-                subst (Walked a.s.now a.f g (l.k + 1 + 1)) (sym w.count-is)
-                (passes_by a.s.now a.f a.b p.1 g e (l.k + 1) c.if-rest-eq1.count (first (goal.at.loop-rest-preserved c).Joined-rest-eq1)
+                subst (Walked a.m.image.now a.f g (l.k + 1 + 1)) (sym w.count-is)
+                (passes_by a.m.image.now a.f a.m.block a.m.of_image g e (l.k + 1) c.if-rest-eq1.count (first (goal.at.loop-rest-preserved c).Joined-rest-eq1)
                 (sym t ∙ eq-eqb _ _ w.if-rest-eq1-2.true) (sym w.takes-then-rest-eq1-2.ensures ∙ w.if-takes-2.false))
             | else-rest-eq1-2 w ↦
-                subst (Walked a.s.now a.f g (l.k + 1 + 1)) (sym w.count-is)
-                (passes_over a.s.now a.f a.b p.1 g e (l.k + 1) c.if-rest-eq1.count (first (goal.at.loop-rest-preserved c).Joined-rest-eq1)
+                subst (Walked a.m.image.now a.f g (l.k + 1 + 1)) (sym w.count-is)
+                (passes_over a.m.image.now a.f a.m.block a.m.of_image g e (l.k + 1) c.if-rest-eq1.count (first (goal.at.loop-rest-preserved c).Joined-rest-eq1)
                 (sym t ∙ ne_eqb _ _ w.if-rest-eq1-2.false))
           ]),
     )
@@ -129,10 +124,9 @@ pub returns-then-takes : goal.returns-then-takes
 returns-then-takes c =
     let l = c.loop-rest in
     let a = c.args in
-    let p = c.requires in
     let g = c.turned-pool.result in
     ap (λ (n : ℕ). At n (l.count + 1)) c.seat.ensures
-    ∙ stops_at a.s.now a.f a.b p.1 g (pooled (goal.at.returns-then-takes c).After-turned-pool) l.k l.count l.invariant.1
+    ∙ stops_at a.m.image.now a.f a.m.block a.m.of_image g (pooled (goal.at.returns-then-takes c).After-turned-pool) l.k l.count l.invariant.1
     (sym (bit-here last_mailbox g l.rest l.k l.invariant.0) ∙ eq-eqb _ _ c.if-rest-eq1.true)
     (sym c.takes.ensures ∙ c.if-takes.true)
 
@@ -140,9 +134,8 @@ pub returns-then-takes-2 : goal.returns-then-takes-2
 returns-then-takes-2 c =
     let l = c.loop-rest in
     let a = c.args in
-    let p = c.requires in
     let g = c.turned-pool.result in
     ap (λ (n : ℕ). At n (c.if-rest-eq1.count + 1)) c.seat-then-takes-2.ensures
-    ∙ stops_at a.s.now a.f a.b p.1 g (pooled (goal.at.returns-then-takes-2 c).After-turned-pool) (l.k + 1) c.if-rest-eq1.count (first (goal.at.returns-then-takes-2 c).Joined-rest-eq1)
+    ∙ stops_at a.m.image.now a.f a.m.block a.m.of_image g (pooled (goal.at.returns-then-takes-2 c).After-turned-pool) (l.k + 1) c.if-rest-eq1.count (first (goal.at.returns-then-takes-2 c).Joined-rest-eq1)
     (sym (bit-after last_mailbox g l.rest l.k l.invariant.0) ∙ eq-eqb _ _ c.if-rest-eq1-2.true)
     (sym c.takes-then-rest-eq1-2.ensures ∙ c.if-takes-2.true)

@@ -8,31 +8,32 @@ use Rattle.registers.specs.Block.{image_bytes, put_block, e_can}
 use Rattle.fresh.specs.Fresh.{fresh_block, fresh, fresh_image}
 use Rattle.fresh.proofs.fresh.Goals as goal
 
-pub returns-then-image-ne-IMAGE_BYTES : goal.returns-then-image-ne-IMAGE_BYTES
+pub returns-in_default : goal.returns-in_default
 unfolding fresh
-returns-then-image-ne-IMAGE_BYTES c =
-    let e = ne_eqb (length c.args.image.now) image_bytes c.if-image-ne-IMAGE_BYTES.true in
-    rw e (record { image = refl; answered = c.pack.ensures })
+returns-in_default c =
+    let e = ne_eqb (length c.args.image.now) image_bytes c.in_default.ensures.cases in
+    rw e (record { image = refl; answered = c.refuse.ensures })
 
 pub returns-then-profile-gt-E_CAN : goal.returns-then-profile-gt-E_CAN
 unfolding fresh
 returns-then-profile-gt-E_CAN c =
     let a = c.args in
-    let e = eq-eqb (length a.image.now) image_bytes c.if-image-ne-IMAGE_BYTES.false in
+    let whole = c.in-Some.ensures.cases in
+    let e = eq-eqb (length a.image.now) image_bytes whole.long in
     let p = lt-leb a.profile e_can c.if-profile-gt-E_CAN.true in
-    rw (e, p) (record { image = refl; answered = c.pack-then-profile-gt-E_CAN.ensures })
+    rw (e, p) (record { image = whole.same; answered = c.refuse-then-profile-gt-E_CAN.ensures })
 
 pub returns : goal.returns
 unfolding fresh fresh_image
 returns c =
     let a = c.args in
     let s = a.image.now in
-    let l = c.if-image-ne-IMAGE_BYTES.false in
-    let e = eq-eqb (length s) image_bytes l in
+    let whole = c.in-Some.ensures.cases in
+    let e = eq-eqb (length s) image_bytes whole.long in
     let p = le-leb a.profile e_can c.if-profile-gt-E_CAN.false in
     rw (e, p) (record {
       image =
           c.fill_registers.ensures
-          ∙ ap (λ (x : List ℕ). put_block x (fresh_block a.profile)) (c.clear.ensures ∙ zeros (length s) l);
-      answered = c.pack-2.ensures;
+          ∙ ap (λ (x : List ℕ). put_block x (fresh_block a.profile)) (c.fill.ensures.after (λ y e. e) ∙ zeros _ (ap (length {A = ℕ}) whole.same ∙ whole.long));
+      answered = c.pack.ensures;
     })

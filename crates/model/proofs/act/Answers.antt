@@ -1,86 +1,53 @@
-use Rattle.events.specs.declared.Event.TheVariants.{Refused, Register, Mailbox, Heard, Start, Outcome, ReceiveError, Recessive, Tick, Mode, Options, Reset}
-use Rattle.model.specs.Parts.{Sized}
-use Rattle.model.proofs.Meets.{as_case}
+use mathlib.Core.Path.{◌≡◌, refl}
+use borrow.Author.Rules.{rules}
+use Rattle.registers.specs.Block.{block_of}
+use Rattle.registers.specs.Modes.{ticked, worsened, recessive, optioned, asked}
+use Rattle.events.specs.declared.Event.TheVariants.{ReceiveError, Recessive, Tick, Mode, Options}
+use Rattle.model.specs.Step.{own, goes, beside_after, named}
+use Rattle.model.proofs.Meets.{turns}
 use Rattle.model.proofs.act.Goals as goal
 
-pub write_mailbox-requires : goal.write_mailbox-requires
-write_mailbox-requires c =
-    let z = c.requires.1 in
-    let w : Sized c.args.image.now (Mailbox c.in-Mailbox.target c.in-Mailbox.word c.in-Mailbox.value) = rw c.in-Mailbox.is at z in
-    (c.requires.0, w.0, w.1)
-
-pub hear-requires : goal.hear-requires
-hear-requires c =
-    let z = c.requires.1 in
-    (c.requires.0, rw c.in-Heard.is at z)
-
-pub conclude-requires : goal.conclude-requires
-conclude-requires c =
-    let z = c.requires.1 in
-    (c.requires.0, rw c.in-Outcome.is at z)
-
-pub worsen-requires : goal.worsen-requires
-worsen-requires c =
-    let z = c.requires.1 in
-    (c.requires.0, rw c.in-ReceiveError.is at z)
-
-pub returns-in-Refused : goal.returns-in-Refused
-returns-in-Refused c =
-    let z = c.requires.1 in
-    let none : Sized c.args.image.now (Refused c.in-Refused.number) = rw c.in-Refused.is at z in
-    absurd none
-
-pub returns-in-Register : goal.returns-in-Register
-returns-in-Register c =
-    let a = c.args in
-    as_case a.image.now a.e (Register c.in-Register.target c.in-Register.value) c.in-Register.is c.write_register.ensures
-
-pub returns-in-Mailbox : goal.returns-in-Mailbox
-returns-in-Mailbox c =
-    let a = c.args in
-    as_case a.image.now a.e (Mailbox c.in-Mailbox.target c.in-Mailbox.word c.in-Mailbox.value) c.in-Mailbox.is c.write_mailbox.ensures
-
-pub returns-in-Heard : goal.returns-in-Heard
-returns-in-Heard c =
-    let a = c.args in
-    as_case a.image.now a.e (Heard c.in-Heard.frame) c.in-Heard.is c.hear.ensures
-
-pub returns-in-Start : goal.returns-in-Start
-returns-in-Start c =
-    let a = c.args in
-    as_case a.image.now a.e Start c.in-Start.is c.start.ensures
-
-pub returns-in-Outcome : goal.returns-in-Outcome
-returns-in-Outcome c =
-    let a = c.args in
-    as_case a.image.now a.e (Outcome c.in-Outcome.kind) c.in-Outcome.is c.conclude.ensures
-
 pub returns-in-ReceiveError : goal.returns-in-ReceiveError
+unfolding own goes beside_after named
 returns-in-ReceiveError c =
     let a = c.args in
-    as_case a.image.now a.e (ReceiveError c.in-ReceiveError.value) c.in-ReceiveError.is c.worsen.ensures
+    let b = block_of a.image.now in
+    let h = c.change.ensures.block in
+    let made : h.0 ≡ worsened b c.in-ReceiveError.value = search (rules, h.1) in
+    turns a.image.now a.e (ReceiveError c.in-ReceiveError.value) h.0 c.in-ReceiveError.is made refl refl refl h.2 c.change.ensures.answered
 
 pub returns-in-Recessive : goal.returns-in-Recessive
+unfolding own goes beside_after named
 returns-in-Recessive c =
     let a = c.args in
-    as_case a.image.now a.e Recessive c.in-Recessive.is c.recess.ensures
+    let b = block_of a.image.now in
+    let h = c.change-in-Recessive.ensures.block in
+    let made : h.0 ≡ recessive b = search (rules, h.1) in
+    turns a.image.now a.e Recessive h.0 c.in-Recessive.is made refl refl refl h.2 c.change-in-Recessive.ensures.answered
 
 pub returns-in-Tick : goal.returns-in-Tick
+unfolding own goes beside_after named
 returns-in-Tick c =
     let a = c.args in
-    as_case a.image.now a.e Tick c.in-Tick.is c.tick.ensures
+    let b = block_of a.image.now in
+    let h = c.change-in-Tick.ensures.block in
+    let made : h.0 ≡ ticked b = search (rules, h.1) in
+    turns a.image.now a.e Tick h.0 c.in-Tick.is made refl refl refl h.2 c.change-in-Tick.ensures.answered
 
 pub returns-in-Mode : goal.returns-in-Mode
+unfolding own goes beside_after named
 returns-in-Mode c =
     let a = c.args in
-    as_case a.image.now a.e (Mode c.in-Mode.value) c.in-Mode.is c.ask.ensures
+    let b = block_of a.image.now in
+    let h = c.change-in-Mode.ensures.block in
+    let made : h.0 ≡ asked b c.in-Mode.value = search (rules, h.1) in
+    turns a.image.now a.e (Mode c.in-Mode.value) h.0 c.in-Mode.is made refl refl refl h.2 c.change-in-Mode.ensures.answered
 
 pub returns-in-Options : goal.returns-in-Options
+unfolding own goes beside_after named
 returns-in-Options c =
     let a = c.args in
-    as_case a.image.now a.e (Options c.in-Options.value) c.in-Options.is c.choose_options.ensures
-
-pub returns-in-Reset : goal.returns-in-Reset
-returns-in-Reset c =
-    let a = c.args in
-    as_case a.image.now a.e Reset c.in-Reset.is c.reset.ensures
+    let b = block_of a.image.now in
+    let h = c.change-in-Options.ensures.block in
+    let made : h.0 ≡ optioned b c.in-Options.value = search (rules, h.1) in
+    turns a.image.now a.e (Options c.in-Options.value) h.0 c.in-Options.is made refl refl refl h.2 c.change-in-Options.ensures.answered

@@ -1,6 +1,4 @@
 use mathlib.Core.Path.{◌∙◌, ap, ap₂}
-use native.Mathlib.Omega.{arith}
-use lib.ListN.{length}
 use Rattle.registers.specs.declared.Block.{Block}
 use Rattle.registers.specs.Block.{block_of, put_block}
 use Rattle.registers.specs.Frames.{stored}
@@ -12,16 +10,6 @@ use Rattle.model.proofs.Meets.{delivers}
 use Rattle.model.proofs.Beside.{filed_beside}
 use Rattle.model.proofs.store.Goals as goal
 
-pub put_frame-requires : goal.put_frame-requires
-put_frame-requires c = rw c.load-stamp.ensures (omega (arith, c.requires.0.size, c.requires.2), c.requires.2, c.requires.1.id, c.requires.1.dlc, c.requires.0.tsc)
-
-pub store-requires : goal.store-requires
-store-requires c =
-    let a = c.args in
-    let f = a.f in
-    let beside = filed_beside a.image.now a.n c.requires.0.size c.requires.2 f.ide f.rtr f.id f.dlc f.bytes c.load-stamp.result.tsc in
-    ap length c.put_frame.ensures ∙ beside.size ∙ c.requires.0.size
-
 pub returns : goal.returns
 unfolding delivered stowed
 returns c =
@@ -30,7 +18,7 @@ returns c =
     let n = a.n in
     let f = a.f in
     let filing = c.put_frame.ensures in
-    let beside = filed_beside s n c.requires.0.size c.requires.2 f.ide f.rtr f.id f.dlc f.bytes c.load-stamp.result.tsc in
+    let beside = filed_beside s n c.told-image c.requires.2 f.ide f.rtr f.id f.dlc f.bytes c.load-stamp.result.tsc in
     let boxes = filing ∙ ap (λ (y : Block). with_mailbox s n (filed (mailbox s n) f.ide f.rtr f.id f.dlc f.bytes y.tsc)) c.load-stamp.ensures in
     delivers s c.load.result (c.load.ensures ∙ ap block_of filing ∙ beside.block) f (Into n a.count)
     (c.store.ensures ∙ ap₂ put_block boxes (c.hold.ensures ∙ ap (λ (y : Block). stored y n f.rtr) c.listen.ensures))

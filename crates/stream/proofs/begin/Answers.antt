@@ -10,9 +10,9 @@ use Rattle.stream.proofs.begin.Goals as goal
 pub returns-then-text-lt24 : goal.returns-then-text-lt24
 returns-then-text-lt24 c =
     let a = c.args in
-    no_room a.image.now a.state.now a.text.now opened header 0 (omega arith) c.pack.ensures
+    no_room a.image.now a.state.now a.text.now opened header 0 (omega arith) c.refuse.ensures
 
 pub returns : goal.returns
 returns c =
     let a = c.args in
-    printed-there a.image.now a.state.now a.text.now opened header 0 (omega arith) (fresh-there a.image.now a.state.now a.text.now c.requires.0 c.fresh.ensures) (c.restart.ensures ∙ nothing-gathered 1 (fresh_image can_b)) c.put_text.ensures c.pack-2.ensures
+    printed-there a.image.now a.state.now a.text.now opened header 0 (omega arith) (fresh-there a.image.now a.state.now a.text.now (omega arith) c.fresh.ensures) (c.restart.ensures ∙ nothing-gathered 1 (fresh_image can_b)) c.put_text.ensures c.pack.ensures

@@ -1,6 +1,6 @@
 use Rattle.stream.proofs.Bytewise.{low_byte, high_byte-fault, high_byte}
 use Prim.Native.Nat.{ℕ, ◌+◌, ◌*◌}
-use mathlib.Core.Path.{ap₂}
+use mathlib.Core.Path.{ap₂, refl}
 use native.Mathlib.Omega.{arith}
 use Rattle.stream.proofs.count.Goals as goal
 
@@ -8,31 +8,23 @@ pub returns-then-r-eq0 : goal.returns-then-r-eq0
 returns-then-r-eq0 c =
     let a = c.args in
     let p = c.requires in
-    low_byte a.r a.event.now p.2 a.out.now a.place c.if-r-eq0.true p.3 c.wait.ensures.0 c.wait.ensures.1
-
-pub overflow_mul-n : goal.overflow_mul-n
-overflow_mul-n c =
-    record { fits = omega (arith, c.byte_at-2.ensures, c.slice_known-1.given 1) }
-
-pub overflow_add-n : goal.overflow_add-n
-overflow_add-n c =
-    record { fits = omega (arith, c.byte_at-2.ensures, c.byte_at.ensures, c.slice_known-1.given 0, c.slice_known-1.given 1) }
+    low_byte a.r a.event.now (omega arith) a.out.now a.place c.if-r-eq0.true p.2 c.wait.ensures.0 c.wait.ensures.1
 
 pub fault-requires : goal.fault-requires
 fault-requires c =
     let n = ap₂ (λ (x y : ℕ). x + 256 * y) c.byte_at.ensures c.byte_at-2.ensures in
-    c.requires.4 (λ z. omega arith) (omega (arith, n))
+    c.requires.3 (λ z. omega arith) (omega (arith, n))
 
 pub returns-then-n-gt1000 : goal.returns-then-n-gt1000
 returns-then-n-gt1000 c =
     let a = c.args in
     let p = c.requires in
     let n = ap₂ (λ (x y : ℕ). x + 256 * y) c.byte_at.ensures c.byte_at-2.ensures in
-    high_byte-fault a.r a.event.now p.2 a.out.now a.place p.1 (λ z. omega arith) n (omega arith) c.clear.ensures c.fault.ensures.0 c.fault.ensures.1
+    high_byte-fault a.r a.event.now (omega arith) a.out.now a.place p.1 (λ z. omega arith) n (omega arith) refl c.fault.ensures.0 c.fault.ensures.1
 
 pub returns : goal.returns
 returns c =
     let a = c.args in
     let p = c.requires in
     let n = ap₂ (λ (x y : ℕ). x + 256 * y) c.byte_at.ensures c.byte_at-2.ensures in
-    high_byte a.r a.event.now p.2 a.out.now a.place p.1 (λ z. omega arith) n (omega arith) c.clear.ensures c.onward.ensures
+    high_byte a.r a.event.now (omega arith) a.out.now a.place p.1 (λ z. omega arith) n (omega arith) refl c.onward.ensures

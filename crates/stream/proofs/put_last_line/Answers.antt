@@ -7,7 +7,7 @@ use Rattle.stream.proofs.put_last_line.Goals as goal
 
 pub put_ending-requires : goal.put_ending-requires
 put_ending-requires c =
-    omega (arith, ending-most c.args.r.steps (omega (arith, c.requires.0)), c.requires.1)
+    omega (arith, ending-most c.args.r.steps (omega (arith, c.requires)))
 
 pub returns-then-r-eq-BEHIND : goal.returns-then-r-eq-BEHIND
 returns-then-r-eq-BEHIND c =

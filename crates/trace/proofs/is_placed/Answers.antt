@@ -1,47 +1,27 @@
-use lib.ListN.{get_or}
-use Prim.Native.Nat.{◌+◌, ◌-◌}
-use mathlib.Core.Path.{◌≡◌, refl, sym, ◌∙◌, ap}
-use mathlib.Core.Bool.{Bool, true, false, ◌&&◌}
-use native.Mathlib.Omega.{arith}
+use Rattle.std.proofs.Common.{◌≡◌, ℕ, zero, suc, Bool, rules, arith, List, ◌+◌, ◌*◌, ◌&&◌, get_or, refl, ap, ◌∙◌}
+use Rattle.std.specs.List.{list_all, range_with_len}
+use Rattle.std.proofs.lemmas.Iterator.{YieldsList-from_range}
+use Rattle.std.proofs.lemmas.Iterator.Search.{all_from_yields_List}
+use borrow.Author.Tests.{tests}
 use Rattle.trace.specs.Trace.{placed, takes}
-use Rattle.trace.proofs.Runs.{placed-none, placed_more}
 use Rattle.trace.proofs.is_placed.Goals as goal
 
-pub loop-left-init : goal.loop-left-init
-loop-left-init c = (refl, omega arith)
+-- the test of the event with that index, and the events from an index on
+abbrev in_place : ℕ → List ℕ → ℕ → ℕ → Bool
+in_place k f from i = takes k (get_or f (from + 16 * i) 0)
 
-pub byte_at-requires : goal.byte_at-requires
-byte_at-requires c = tt
-
-pub takes-requires : goal.takes-requires
-takes-requires c = tt
-
-pub returns-then-not-takes : goal.returns-then-not-takes
-returns-then-not-takes c =
-    let f = c.args.file.now in
-    let l = c.loop-left in
-    let m = placed_more c.args.k f l.at l.left c.loop-left-test.true in
-    let t : takes c.args.k (get_or f l.at 0) ≡ false = ap (takes c.args.k) (sym c.byte_at.ensures.0) ∙ sym c.takes.ensures ∙ c.if-not-takes.true in
-    sym (sym l.invariant.0 ∙ m ∙ ap (λ (x : Bool). x && placed c.args.k f (l.at + 16) (l.left - 1)) t)
-
-pub overflow_add-at : goal.overflow_add-at
-overflow_add-at c = record { fits = omega arith }
-
-pub overflow_sub-left : goal.overflow_sub-left
-overflow_sub-left c = omega arith
-
-pub loop-left-smaller : goal.loop-left-smaller
-loop-left-smaller c = omega arith
-
-pub loop-left-preserved : goal.loop-left-preserved
-loop-left-preserved c =
-    let f = c.args.file.now in
-    let l = c.loop-left in
-    let m = placed_more c.args.k f l.at l.left c.loop-left-test.true in
-    let t : takes c.args.k (get_or f l.at 0) ≡ true = ap (takes c.args.k) (sym c.byte_at.ensures.0) ∙ sym c.takes.ensures ∙ c.if-not-takes.false in
-    (sym (ap (λ (x : Bool). x && placed c.args.k f (l.at + 16) (l.left - 1)) t) ∙ sym m ∙ l.invariant.0, omega arith)
+placed_all : (k : ℕ) (f : List ℕ) (from a n : ℕ) → list_all (in_place k f from) (range_with_len a n) ≡ placed k f (from + 16 * a) n
+unfolding placed
+placed_all k f from a zero = refl
+placed_all k f from a (suc n) =
+    let e : from + 16 * (a + 1) ≡ from + 16 * a + 16 = omega arith in
+    ap (λ (b : Bool). in_place k f from a && b) (placed_all k f from (a + 1) n ∙ ap (λ (x : ℕ). placed k f x n) e)
 
 pub returns : goal.returns
 returns c =
-    let l = c.loop-left in
-    sym (placed-none c.args.k c.args.file.now l.at l.left (omega arith)) ∙ l.invariant.0
+    let k = c.args.k in
+    let f = c.args.file.now in
+    let from = c.args.from in
+    let e : from + 16 * 0 ≡ from = omega arith in
+    all_from_yields_List (in_place k f from) _ _ _ c.all.ensures.ran (YieldsList-from_range 0 c.args.n c.args.n refl (omega arith)) (λ x b q h. search (rules, tests))
+    ∙ placed_all k f from 0 c.args.n ∙ ap (λ (x : ℕ). placed k f x c.args.n) e

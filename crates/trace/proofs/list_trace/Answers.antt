@@ -1,4 +1,4 @@
-use mathlib.Core.Path.{ap}
+use mathlib.Core.Path.{◌∙◌, ap}
 use mathlib.Core.List.{◌++◌}
 use native.Mathlib.Omega.{arith}
 use lib.ListN.{length}
@@ -16,15 +16,20 @@ run_all-b-requires c =
     let l = lines 1 (fresh_image can_b) (events f) in
     let e = ending (length (events f)) in
     let m = run-most f c.requires.0 in
-    (c.requires.0, front l e _ _ (room c.put_text-a.ensures (l ++ e) (omega (arith, c.requires.1))))
+    rw c.of-trace.ensures (front l e _ _ (room c.put_text-a.ensures (l ++ e) (omega (arith, c.requires.1))))
 
 pub put_ending-requires : goal.put_ending-requires
 unfolding run
 put_ending-requires c =
     let f = c.args.file.now in
+    let l = lines 1 (fresh_image can_b) (events f) in
+    let e = ending (length (events f)) in
     let m = run-most f c.requires.0 in
-    rw c.event_count.ensures (room c.run_all-b.ensures (ending (length (events f))) (room c.put_text-a.ensures (lines 1 (fresh_image can_b) (events f) ++ ending (length (events f))) (omega (arith, c.requires.1))))
+    let n = c.count.ensures ∙ ap length c.of-trace.ensures in
+    rw n (room (as_text (ap (lines 1 (fresh_image can_b)) c.of-trace.ensures) c.run_all-b.ensures) e (room c.put_text-a.ensures (l ++ e) (omega (arith, c.requires.1))))
 
 pub returns : goal.returns
 unfolding run
-returns c = both_put c.put_text-a.ensures (both_put c.run_all-b.ensures (as_text (ap ending c.event_count.ensures) c.put_ending.ensures))
+returns c =
+    let n = c.count.ensures ∙ ap length c.of-trace.ensures in
+    both_put c.put_text-a.ensures (both_put (as_text (ap (lines 1 (fresh_image can_b)) c.of-trace.ensures) c.run_all-b.ensures) (as_text (ap ending n) c.put_ending.ensures))

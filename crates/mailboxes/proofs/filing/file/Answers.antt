@@ -2,15 +2,8 @@ use Prim.Native.Nat.{ℕ}
 use mathlib.Core.Path.{◌∙◌, ap, ap₂}
 use mathlib.Core.List.{List}
 use Rattle.words.specs.Word.{put_word}
-use Rattle.mailboxes.proofs.Filed.{data_bytes_le}
-use native.Mathlib.Omega.{arith}
 use Rattle.mailboxes.specs.Filing.{filed_identifier, spliced, with_data, filed}
 use Rattle.mailboxes.proofs.filing.file.Goals as goal
-
-pub spliced-d-requires : goal.spliced-d-requires
-spliced-d-requires c =
-    let a = c.args in
-    omega (arith, c.data_bytes.ensures, data_bytes_le a.rtr a.dlc)
 
 pub returns : goal.returns
 unfolding filed

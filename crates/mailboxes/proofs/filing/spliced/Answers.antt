@@ -2,7 +2,7 @@ use Prim.Native.Nat.{ℕ, ◌-◌, ◌*◌, ◌/◌, ◌%◌, ◌^◌, ◌<◌, 
 use mathlib.Core.Path.{◌≡◌, sym, ◌∙◌, ap}
 use mathlib.Core.Logic.{◌≢◌}
 use native.Mathlib.Omega.{arith}
-use native.Mathlib.Nat.{mod-lt, mod-le, mul-mod_left, add-sub_cancel}
+use native.Mathlib.Nat.{mod-lt, mul-mod_left, add-sub_cancel}
 use lib.Bits.{bit_or}
 use lib.Pow.{pow_pos, shl_exact, split}
 use Rattle.bits.proofs.Laws.{or_below}
@@ -12,9 +12,6 @@ use Rattle.mailboxes.proofs.filing.spliced.Goals as goal
 -- the unit of n bytes, where it fits
 unit : (n : ℕ) → n ≤ 8 → n ≢ 8 → 1 * 2 ^ (8 * n) % 2 ^ 64 ≡ 2 ^ (8 * n)
 unit n h l = shl_exact 1 (8 * n) 64 (omega arith) (omega arith) ∙ omega arith
-
-unit_pos : (n : ℕ) → n ≤ 8 → n ≢ 8 → 0 < 1 * 2 ^ (8 * n) % 2 ^ 64
-unit_pos n h l = rw (unit n h l) (pow_pos (8 * n))
 
 spliced_or : (old new n : ℕ) → bit_or (old - old % 2 ^ (8 * n)) (new % 2 ^ (8 * n)) ≡ spliced old new n
 unfolding spliced
@@ -35,15 +32,6 @@ returns-then-n-eq-MOST_DATA_BYTES c =
     let a = c.args in
     let f = c.ranges in
     rw c.if-n-eq-MOST_DATA_BYTES.true (spliced_all a.old a.new f.old.fits f.new.fits)
-
-pub nonzero_rem-result : goal.nonzero_rem-result
-nonzero_rem-result c = unit_pos c.args.n c.requires c.if-n-eq-MOST_DATA_BYTES.false
-
-pub overflow_sub-result : goal.overflow_sub-result
-overflow_sub-result c = mod-le _ _
-
-pub nonzero_rem-result-2 : goal.nonzero_rem-result-2
-nonzero_rem-result-2 c = unit_pos c.args.n c.requires c.if-n-eq-MOST_DATA_BYTES.false
 
 pub returns : goal.returns
 returns c =

@@ -15,5 +15,5 @@ returns c =
     let trr = c.without-2.ensures ∙ ap (without b.trr) x in
     let ta = ap (bit_or b.ta) x in
     let mbtif = ap (λ (m : ℕ). bit_or b.mbtif (bit_and b.mbim m)) x in
-    let tec = c.less_one.ensures in
+    let tec = c.saturating_sub.ensures in
     λ i. with_slot (with_tec (with_mbtif (with_ta (with_trr (with_trs b (trs i)) (trr i)) (ta i)) (mbtif i)) (tec i)) empty_slot

@@ -1,4 +1,0 @@
-use Rattle.bits.proofs.set.Goals as goal
-
-pub returns : goal.returns
-returns c = cc

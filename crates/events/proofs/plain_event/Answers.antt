@@ -1,4 +1,0 @@
-use Rattle.events.proofs.plain_event.Goals as goal
-
-pub returns : goal.returns
-returns c = rw (c.judged.ensures, c.quiet.ensures)
