@@ -1,3 +1,4 @@
 -- The parts of an answer.
 pub mod Parts
 pub mod Lists
+pub mod Refusals

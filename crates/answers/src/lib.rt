@@ -20,7 +20,7 @@ pub enum Refusal {
 }
 
 impl Refusal {
-    // The number that C sees.
+    // The number that C sees. stays a method, and no `From`: contracts name it, as `number_of`.
     pub fn number(self) -> u32
         ensures { result ≡ number_of self }
     {
@@ -32,13 +32,14 @@ impl Refusal {
 pub const NO_MAILBOX: u32 = 32;
 
 // Refusal, mailbox and count of a call. stays: three numbers, as C has them in its answer; a step hands on any refusal that its event has.
+// What is accepted is written out, `pack(0, NO_MAILBOX, count)`: a function would only leave two of three arguments out.
 pub fn pack(refusal: u32, mailbox: u32, count: u32) -> u64
     ensures { result ≡ packed refusal mailbox count }
 {
     u64::from(refusal) + 256 * u64::from(mailbox) + 65536 * u64::from(count)
 }
 
-// Refusal and value of a register read.
+// Refusal and value of a register read. stays: two numbers, as C has them in its answer.
 pub fn pack_reading(refusal: u8, value: u32) -> u64
     ensures { result ≡ packed_reading refusal value }
 {

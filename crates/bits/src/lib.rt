@@ -1,5 +1,5 @@
-// Flag words: one bit for each mailbox. Everything here is said for any bit number. That it is below 32 stays a clause: most are called with a
-// number written out, which a struct would only wrap.
+// Flag words: one bit for each mailbox. Everything here is said for any bit number. That it is below 32 stays a clause, here and
+// wherever a mailbox goes by its number: most calls have the number written out, or count it, and a struct would be made and taken apart at each.
 #![tactic(auto)]
 
 ghost use Rattle.std.specs.Prelude.{◌≡◌, ◌<◌, cond};
@@ -51,7 +51,7 @@ pub fn choose(t: bool, a: u32, b: u32) -> u32
     if t { a } else { b }
 }
 
-// The number of the highest bit of w.
+// The number of the highest bit of w. stays with leading_zeros: ilog2 promises a power of two, and this a bit.
 pub fn highest(w: u32) -> u32
     requires { 0 < w }
     ensures { Highest w result }

@@ -1,4 +1,5 @@
-// Document 02, request a: comparing two images.
+// Document 02, request a: comparing two images. stays: the two images are two parameters, as the rule names them, and so are the list and the place in
+// it, as `texts` has them; a struct of two would be taken apart in each function.
 #![tactic(auto)]
 
 ghost use Rattle.std.specs.Prelude.{◌≡◌, true, ◌+◌, ◌*◌, ◌/◌, ◌<◌, ◌≤◌, length};

@@ -28,9 +28,7 @@ fn is_frame_allowed(e: &EventBytes) -> bool
     ensures { result ≡ frame_allowed e.now }
 {
     let v = value(e);
-    (target(e) <= mailboxes::HIGHEST_DLC)
-        & !bits::test(v, 29)
-        & (bits::test(v, 31) | (v % 262144 == 0))
+    (target(e) <= mailboxes::HIGHEST_DLC) & !bits::test(v, 29) & mailboxes::word_layout(0, v)
 }
 
 // Is what it does not use zero, and what it uses allowed?

@@ -67,7 +67,7 @@ fn outcome_event(e: &EventBytes) -> Result<Event, Refusal>
     Ok(Event::Outcome { kind })
 }
 
-// Operation 5.
+// Operation 5. stays beside `mode_event` and `options_event`: test and case differ, and one function of both would be longer than the three.
 #[tactic(auto, unfolding(crate::specs::Decode::decoded_as))]
 fn receive_error_event(e: &EventBytes) -> Result<Event, Refusal>
     ensures { or_refused result ≡ decoded_as 5 false false e.now }
@@ -107,7 +107,7 @@ fn event_in(asleep: bool, ecan: bool, e: &[u8]) -> Result<Event, Refusal>
     ensures { or_refused result ≡ decoded asleep ecan e.now }
 {
     let e: &EventBytes = e.as_array().ok_or(Refusal::Unknown)?;
-    // stays: numbers, since each stands here once, where the operation gets its case
+    // stays: numbers, since this is where an operation gets its case
     let op = words::byte_at(e, 0);
     match op {
         0 => register_event(asleep, ecan, e),

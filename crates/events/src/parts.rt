@@ -26,7 +26,7 @@ pub fn payload(e: &EventBytes) -> u64
 
 // Is zero what an operation does not use? t, w and v say whether it has a target, a word, a value; n how many data bytes.
 // Two shifts, since eight bytes are all 64 bits.
-// stays: three flags, as the definition `quiet` takes them
+// stays: three flags, as the definition has them; a struct of them would be written out at each call
 #[tactic(auto, using(crate::proofs::Laws::halves), unfolding(crate::specs::Parts::quiet))]
 pub fn quiet(e: &EventBytes, t: bool, w: bool, v: bool, n: u32) -> bool
     requires { n ≤ most_data_bytes }

@@ -6,6 +6,7 @@ use crate::parts::{quiet, target, value};
 use crate::{Event, EventBytes, demand};
 use answers::Refusal;
 
+// May register t be written at all? stays: registers as numbers, here and below, since any byte comes in
 fn is_writable(t: u32) -> bool
     ensures { result ≡ writable t }
 {
@@ -18,6 +19,7 @@ fn is_register_allowed(ecan: bool, t: u32, v: u32) -> bool
     ensures { result ≡ register_allowed ecan t v }
 {
     match t {
+        // stays written out, here and in `good`: bits 30 and 29, one comparison each time
         8 | 9 | 64..=95 => v / 536870912 % 4 == 0,
         11 => ecan | (v < 0x8000_0000),
         15 | 16 => v < 256,

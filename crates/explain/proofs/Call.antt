@@ -15,9 +15,6 @@ use Rattle.words.specs.Word.{words_of}
 use Rattle.words.specs.Bytes.{Bytes}
 use Rattle.registers.specs.Block.{block_of}
 use Rattle.answers.specs.Answer.{Refuses, Fitted}
-use Rattle.answers.specs.declared.Refusal.{Refusal}
-use Rattle.answers.specs.declared.Refusal.TheVariants.{NoModel, Unknown, Asleep, NotAllowed, Busy, Locked, Pointless, NoTrace, NoRoom}
-use Rattle.answers.specs.Refusals.{number_of}
 use Rattle.answers.proofs.Lists.{same_end, fitted_unique}
 use Rattle.good.specs.Good.{good_image}
 use Rattle.events.specs.Parts.{event_bytes, operation, value, frame_of}
@@ -56,18 +53,6 @@ a_frame_long e h = at _ (length e is 16 && operation e is 2) refl h
 pub identifier-fits : (e : List ℕ) → (frame_of e).id.0 < 2 ^ 29
 unfolding frame_of
 identifier-fits e = mod-lt (value e) (pow_pos 29)
-
--- no refusal has the number 0
-pub number-some : (why : Refusal) → number_of why ≢ 0
-number-some NoModel h = absurd (omega arith)
-number-some Unknown h = absurd (omega arith)
-number-some Asleep h = absurd (omega arith)
-number-some NotAllowed h = absurd (omega arith)
-number-some Busy h = absurd (omega arith)
-number-some Locked h = absurd (omega arith)
-number-some Pointless h = absurd (omega arith)
-number-some NoTrace h = absurd (omega arith)
-number-some NoRoom h = absurd (omega arith)
 
 -- ---- by what is refused
 

@@ -18,7 +18,8 @@ use registers::{Block, Image, Loaded};
 // Room for any lines: a mailbox has one at most.
 const LONGEST: usize = 256;
 
-// The reasons. The bit is one of word 0; the state is the mode, or 4 in bus off.
+// The reasons. The bit is one of word 0; the state is the mode, or 4 in bus off. stays a number, and so does the 32 below: they are bytes of the line,
+// and the definitions have them so.
 #[derive(Clone, Copy)]
 pub enum Reason {
     Disabled,
@@ -109,8 +110,7 @@ fn judge(differing: u32, passes: bool) -> Reason
 }
 
 // The first reason that holds of mailbox n.
-// stays in the contracts from here on: that the identifier has 29 bits. Its type would be events::Frame, which that crate's frame_of and filter
-// build and read without it.
+// stays in the contracts from here on: that the identifier has 29 bits, for the reason that filter gives at `frame_word`
 fn reason_at(m: Loaded, f: Frame, n: u32) -> Reason
     requires { (f.id.0 < 536870912) × (n < 32) }
     ensures { result ≡ reason_by m.entry.image.now f n }
@@ -127,15 +127,17 @@ fn reason_at(m: Loaded, f: Frame, n: u32) -> Reason
     judge(differing, bits::test(filter::guarded(b), n))
 }
 
-// Two words: mailbox, reason and bit number in three bytes of the first, and zeros.
+// Eight bytes: mailbox, reason, bit number, and zeros. stays: list and place are two arguments, as `texts` says.
 fn put_line(list: &mut [u8], at: usize, l: Line) -> usize
     requires { at + 8 ≤ length list.old }
     ensures { Put list.old at (line_bytes l) list.new result }
 {
     let why = l.reason;
-    let first = l.mailbox as u32 + 256 * (why.number() as u32) + 65536 * (why.bit_number() as u32);
-    let rest = texts::put_word(list, at, first);
-    texts::put_word(list, rest, 0)
+    texts::put_text(
+        list,
+        at,
+        &[l.mailbox, why.number(), why.bit_number(), 0, 0, 0, 0, 0],
+    )
 }
 
 // The lines of a heard frame, place by place, at the front of bytes that have room for any: up to the first mailbox that matched.
@@ -180,7 +182,7 @@ fn put_unheard(b: Block, list: &mut [u8]) -> usize
 }
 
 // The lines of a frame, heard or not.
-// stays: the mode of a good image, in three contracts; `Loaded` is made of any image
+// stays: the mode of a good image, here and in `put_unheard` and the two below; `Loaded` is made of any image
 fn put_explanation(s: &Image, f: Frame, list: &mut [u8]) -> usize
     requires { ((block_of s.now).mode ≤ 3) × (f.id.0 < 536870912) × (256 ≤ length list.old) }
     ensures { Put list.old 0 (list_bytes (explained_by s.now f)) list.new result }

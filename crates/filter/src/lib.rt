@@ -11,7 +11,8 @@ ghost use Rattle.filter.specs.Parts.{Turned, takes_by};
 use events::Frame;
 use registers::{Block, Image, Loaded};
 
-// What the search finds. Stays an enum of its own: it holds a count in both cases, so that it is no `Option`.
+// What the search finds. Stays an enum of its own: document 01 has number and count, or none behind the last, and
+// definitions and theorems name these cases.
 #[derive(Clone, Copy)]
 pub enum Found {
     At { mailbox: u32, count: u32 },
@@ -41,8 +42,8 @@ fn compared(f: Frame) -> u32
     bits::choose(f.ide, 0x9FFF_FFFF, 0x9FFC_0000)
 }
 
-// IDE and identifier of the frame, as in word 0. That the identifier has 29 bits stays a clause, here and below: `Frame` is declared in
-// events, and the definitions make identifiers of any number.
+// IDE and identifier of the frame, as in word 0. That the identifier has 29 bits stays a clause, here and below: the definition `frame_of` makes a
+// `Frame` of any 16 bytes, and theorems speak of every one; with the bound in the type each would have to carry a proof of it.
 fn frame_word(f: Frame) -> u32
     requires { f.id.0 < 536870912 }
     ensures { result ≡ frame_word f }
@@ -76,8 +77,8 @@ pub fn seat(b: Block, k: u32) -> u32
     bits::choose(b.is_ecan(), 31 - k, k)
 }
 
-// The mask of mailbox n, where `own` is that of a CAN-B. Image and block stay two parameters, here and in `takes`: the promise is for
-// any block.
+// The mask of mailbox n, where `own` is that of a CAN-B. Image and block stay two parameters: the promise is for any
+// block.
 pub fn mask_at(s: &Image, b: Block, own: u32, n: u32) -> u32
     requires { n < 32 }
     ensures { result ≡ cond (ecan b) (mask_word s.now n) own }
@@ -98,10 +99,12 @@ pub fn guarded(b: Block) -> u32
 
 // Does the mailbox at place k take the frame, where `own` is its mask in a CAN-B?
 #[tactic(auto, using(crate::proofs::Search::seat_lt), unfolding(crate::specs::Parts::takes_by))]
-fn takes(s: &Image, b: Block, f: Frame, own: u32, k: u32) -> bool
+fn takes(m: Loaded, f: Frame, own: u32, k: u32) -> bool
     requires { (f.id.0 < 536870912) × (k < 32) }
-    ensures { result ≡ takes_by s.now b f own k }
+    ensures { result ≡ takes_by m.entry.image.now m.entry.block f own k }
 {
+    let s = m.image;
+    let b = m.block;
     let n = seat(b, k);
     agrees(mask_at(s, b, own, n), f, mailboxes::word(s, n as usize, 0)) & !bits::test(guarded(b), n)
 }
@@ -126,7 +129,7 @@ fn last(m: Loaded, f: Frame, pool: u32, count: u32) -> Found
     if pool < 0x8000_0000 {
         return Found::Missing { count };
     }
-    if takes(m.image, b, f, b.lam, 31) {
+    if takes(m, f, b.lam, 31) {
         return Found::At {
             mailbox: seat(b, 31),
             count: count + 1,
@@ -153,7 +156,7 @@ pub fn find(m: Loaded, f: Frame) -> Found
         }
         if rest % 2 == 1 {
             count += 1;
-            if takes(m.image, b, f, b.gam, k) {
+            if takes(m, f, b.gam, k) {
                 break Found::At {
                     mailbox: seat(b, k),
                     count,
@@ -162,7 +165,7 @@ pub fn find(m: Loaded, f: Frame) -> Found
         }
         if rest / 2 % 2 == 1 {
             count += 1;
-            if takes(m.image, b, f, b.gam, k + 1) {
+            if takes(m, f, b.gam, k + 1) {
                 break Found::At {
                     mailbox: seat(b, k + 1),
                     count,

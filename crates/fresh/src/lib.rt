@@ -11,41 +11,18 @@ use registers::{Block, IMAGE_BYTES, Image};
 
 // The registers of a fresh model: mailbox 31 of a CAN-B receives, the mode is configuration, none waits, nobody is in the slot.
 // stays: the profile is a number, as frostsorrel_fresh of the C interface and the last word of the image have it.
+#[tactic(auto, unfolding(crate::specs::Fresh::fresh_block))]
 pub fn fresh_block(profile: u32) -> Block
     ensures { result ≡ fresh_block profile }
 {
     let md = bits::choose(profile == registers::E_CAN, 0, 0x8000_0000);
     Block {
-        mc: 0,
         md,
-        trs: 0,
-        trr: 0,
-        ta: 0,
-        aa: 0,
-        rmp: 0,
-        rml: 0,
-        lam: 0,
-        gam: 0,
-        rfp: 0,
-        cdr: 0,
-        mbtif: 0,
-        mbrif: 0,
-        mbim: 0,
-        gif: 0,
-        gim: 0,
-        bcr1: 0,
-        bcr2: 0,
-        tsc: 0,
-        tec: 0,
-        rec: 0,
-        mode: 1,
-        waiting: 4,
+        mode: registers::CONFIGURATION,
+        waiting: registers::NO_MODE,
         slot: registers::EMPTY_SLOT,
-        recovery: 0,
-        options: 0,
-        tso: 0,
-        protection: 0,
         profile,
+        ..Block::default()
     }
 }
 

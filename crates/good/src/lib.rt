@@ -12,8 +12,9 @@ ghost use Rattle.good.specs.Good.{good_flags, good_numbers, good_slot, good_bloc
 ghost use Rattle.good.specs.Gathered.{clean, bare, good_pair};
 
 use gather::Gather;
-use registers::{Block, CAN_B, E_CAN, EMPTY_SLOT, Image};
+use registers::{BUS_OFF_AT, Block, CAN_B, E_CAN, EMPTY_SLOT, Image, NO_MODE, NORMAL, SLEEP};
 
+// Bit 31 alone, and the lowest word that has it up. stays written out in other crates, each of which asks it once or twice.
 const TOP: u32 = 0x8000_0000;
 
 // The clauses on flag words and masks.
@@ -35,7 +36,7 @@ fn good_flags(b: Block) -> bool
         & ((b.lam / 536870912 % 4 == 0) & (b.gam / 536870912 % 4 == 0))
 }
 
-// The clauses on counters, modes and options.
+// The clauses on counters, modes and options. `!a | b` is "where a, also b"; `!!` stands where a is said by what does not hold.
 fn good_numbers(b: Block) -> bool
     ensures { result ≡ good_numbers b }
 {
@@ -44,18 +45,19 @@ fn good_numbers(b: Block) -> bool
         & (b.bcr1 < 1024)
         & (b.bcr2 < 1024)
         & (b.tsc < 65536)
-        & (b.tec <= 256)
+        & (b.tec <= BUS_OFF_AT)
         & (b.rec <= 255))
         & ((b.mode <= 3)
-            & (b.waiting <= 4)
+            & (b.waiting <= NO_MODE)
             & (b.slot <= EMPTY_SLOT)
             & (b.recovery <= 127)
             & (b.options <= 3)
             & (b.tso <= 1))
-        & (!(b.tec == 256) | (b.mode == 0))
-        & (!(0 < b.recovery) | (b.tec == 256))
-        & ((1 <= b.waiting) & (!!(b.waiting == 4) | (!(b.slot == EMPTY_SLOT) | (b.tec == 256))))
-        & (!(b.mode == 2) | ((b.tec == 0) & (b.rec == 0) & (b.trs == 0) & (b.trr == 0)))
+        & ((b.tec != BUS_OFF_AT) | (b.mode == NORMAL))
+        & (!(0 < b.recovery) | (b.tec == BUS_OFF_AT))
+        & ((1 <= b.waiting)
+            & (!!(b.waiting == NO_MODE) | ((b.slot != EMPTY_SLOT) | (b.tec == BUS_OFF_AT))))
+        & ((b.mode != SLEEP) | ((b.tec == 0) & (b.rec == 0) & (b.trs == 0) & (b.trr == 0)))
 }
 
 // The clauses that read a bit at the slot's number.
@@ -66,7 +68,7 @@ fn good_slot(b: Block) -> bool
     let x = b.slot_mask();
     (b.trr & x == b.trr)
         & (!!(b.slot == EMPTY_SLOT)
-            | ((b.mode == 0) & (b.tec < 256) & (x & b.trs == x) & (x & b.mc == x)))
+            | ((b.mode == NORMAL) & (b.tec < BUS_OFF_AT) & (x & b.trs == x) & (x & b.mc == x)))
 }
 
 // Every clause on the register block.
@@ -91,7 +93,7 @@ pub struct Gathered {
 fn identifier_sum(w: u32) -> u64
     ensures { ltb result 4294967296 ≡ word_layout 0 w }
 {
-    (w % 262144 + (1 - w / 2147483648) * 2147483648) as u64 + 2147483647
+    u64::from(w % 262144 + (1 - w / 2147483648) * 2147483648) + 2147483647
 }
 
 // The layout of every mailbox.
@@ -124,7 +126,7 @@ impl Gather for Gathered {
 
     // Bits 15 to 5 of words 1 are put above 2^32, so that one branch judges both: a second one costs more than it spares.
     fn is_kept(self) -> bool {
-        self.identifiers | (self.controls / 32 % 2048) as u64 * 4294967296 < 4294967296
+        self.identifiers | u64::from(self.controls / 32 % 2048) * 4294967296 < 4294967296
     }
 }
 
@@ -204,7 +206,7 @@ pub fn as_good_image(s: &[u8]) -> Option<&Image>
     ensures { MatchOption result (good_image s.now ≡ false) (λ image. (good_image s.now ≡ true) × (image.now ≡ s.now)) }
 {
     let image = s.as_array()?;
-    if is_good(image) { Some(image) } else { None }
+    is_good(image).then_some(image)
 }
 
 // Any bytes of any length: are they a good image?

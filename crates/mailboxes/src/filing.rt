@@ -27,6 +27,7 @@ fn filed_identifier(old: u32, ide: bool, i: Identifier) -> u32
     bits::flag(ide, 31) + old / IDENTIFIERS % 4 * IDENTIFIERS + i.0
 }
 
+// stays: the ranges of counter and DLC are clauses, here and below: a block is made of any image, and a frame of any bytes
 fn filed_control(tsc: u32, rtr: bool, dlc: u32) -> u32
     requires { (tsc < 65536) × (dlc ≤ highest_dlc) }
     ensures { result ≡ filed_control tsc rtr dlc }
@@ -60,7 +61,8 @@ fn put_data(m: &mut [u8], d: u64)
     words::put_long(m, DATA_AT, d)
 }
 
-// A frame into 16 lent bytes. stays: they are a slice, as a part of the image is lent; an array of it comes only behind an Option.
+// A frame into 16 lent bytes. stays: they are a slice with a clause, here and in
+// `write_word`: `as_mut_array` gives an `Option`, and `as_chunks_mut` says nothing of what the slice ends as.
 fn file(m: &mut [u8], ide: bool, rtr: bool, i: Identifier, dlc: u32, bytes: u64, tsc: u32)
     requires { (length m.old ≡ 16) × (i.0 < 2 ^ 29) × (dlc ≤ highest_dlc) × (tsc < 65536) }
     ensures { m.new ≡ filed m.old ide rtr i dlc bytes tsc }
@@ -72,7 +74,8 @@ fn file(m: &mut [u8], ide: bool, rtr: bool, i: Identifier, dlc: u32, bytes: u64,
     put_data(m, d);
 }
 
-// A frame into mailbox n: its own part of the image is lent to the writer. stays: the frame comes in parts, as `filed` has them.
+// A frame into mailbox n: its own part of the image is lent to the writer. stays: the frame comes in parts, since
+// `Frame` is of events, a crate above, and `filed` has them so.
 pub fn put_frame(
     s: &mut [u8],
     n: usize,

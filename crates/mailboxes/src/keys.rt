@@ -1,4 +1,4 @@
-// Identifiers and arbitration keys.
+// Identifiers and arbitration keys. stays: functions, and no From: document 01 wants one function that makes keys, and the definitions name these.
 ghost use Rattle.std.specs.Prelude.{◌≡◌, ◌+◌, ◌<◌};
 ghost use Rattle.bits.specs.Bit.{flag};
 ghost use Rattle.mailboxes.specs.Arbitration.{identifier_of, key_of};

@@ -26,7 +26,8 @@ pub struct Key(pub u32);
 
 pub const MAILBOX_BYTES: usize = 16;
 
-// Word k of mailbox n. stays: n and k are numbers with a clause; they come out of events and counts, and go into places.
+// Word k of mailbox n. stays: n and k are numbers with a clause, and the length is
+// one too, here and in the writers: they come out of events and counts, and `Image` is of a crate above.
 pub fn word(s: &[u8], n: usize, k: usize) -> u32
     requires { (16 * n + 16 ≤ length s.now) × (n < 32) × (k < 4) }
     ensures { result ≡ mailbox_word s.now n k }
@@ -48,7 +49,7 @@ fn control_layout(w: u32) -> bool
     w / 32 % 2048 == 0
 }
 
-// May word k of a mailbox be w?
+// May word k of a mailbox be w? stays: k as a number, as the event brings it and the definition has it.
 pub fn word_layout(k: u32, w: u32) -> bool
     ensures { result ≡ word_layout k w }
 {

@@ -3,18 +3,16 @@ use Prim.Native.Nat.{ℕ}
 use mathlib.Core.Path.{◌≡◌, refl, sym, ◌∙◌, ap, ap₂}
 use mathlib.Core.Bool.{Bool, true, false, cond}
 use mathlib.Core.List.{List}
-use mathlib.Core.Logic.{◌≢◌}
 use lib.Dec.{eqb}
-use lib.ListN.{length}
 use borrow.Author.Tests.{eqb-true}
 use Rattle.words.proofs.Bytes.{Bytes}
 use Rattle.registers.specs.declared.Block.{Block}
-use Rattle.registers.specs.Block.{image_bytes, block_of, put_block, no_mode}
+use Rattle.registers.specs.Block.{block_of, put_block, no_mode}
 use Rattle.registers.specs.Modes.{risen, settled}
 use Rattle.registers.proofs.Laws.{put_block_again, block_back}
 use Rattle.events.specs.Decode.{event}
 use Rattle.good.specs.Good.{good_image}
-use Rattle.good.proofs.Image.{good_length, small}
+use Rattle.good.proofs.Image.{small}
 use Rattle.refusals.specs.Refusal.{refusal}
 use Rattle.refusals.proofs.Order.{refusal-bad}
 use Rattle.keeps.proofs.Open.{risen_open}
@@ -51,11 +49,3 @@ ends s e bytes small_bytes g z {x} {y} {r} p q =
 pub stays : (s e : List ℕ) → good_image s ≡ false → {y : List ℕ} {r : ℕ} → y ≡ s → r ≡ packed 1 no_mailbox 0 → Promise (step s e) y r
 unfolding step
 stays s e g p q = rw (refusal-bad s e g) (record { image = p; answered = q })
-
--- bytes of another number are no good image
-pub odd : (s : List ℕ) → length s ≢ image_bytes → good_image s ≡ false
-odd s h = at (good_image s) refl
-  where
-    at : (t : Bool) → good_image s ≡ t → t ≡ false
-    at true g = absurd (h (good_length s g))
-    at false g = refl

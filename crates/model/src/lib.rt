@@ -1,21 +1,19 @@
 // The step: any image, any event.
 //
-// Each operation loads the register block and stores it by itself. The compiler then sees which words an operation leaves alone,
-// and neither loads nor stores them.
+// Each operation loads the register block and stores it in a function of its own: `change` becomes one for each closure that it is given. The
+// compiler then sees which words an operation leaves alone, and neither loads nor stores them.
 #![tactic(auto)]
 
 ghost use Rattle.std.specs.Prelude.{◌≡◌, true, cond, eqb, ◌<◌, ◌≤◌};
-ghost use Rattle.std.specs.Option.{option_map_or};
 ghost use Rattle.registers.specs.declared.Block.{Block as BlockOf};
 ghost use Rattle.registers.specs.Block.{block_of, put_block, no_mode, empty_slot};
 ghost use Rattle.registers.specs.Modes.{risen, settled};
-ghost use Rattle.registers.specs.Sending.{started};
 ghost use Rattle.events.specs.declared.Event.TheVariants.{Register, Mailbox, Heard, Start, Outcome, Reset};
 ghost use Rattle.good.specs.Good.{good_image};
 ghost use Rattle.filter.specs.declared.Delivery.TheVariants.{Into, Reply, Nowhere};
 ghost use Rattle.answers.specs.Answer.{packed, Promise};
 ghost use Rattle.model.specs.Step.{masked, unmasked, postmarked, step as step_of};
-ghost use Rattle.model.specs.Parts.{Loaded, Sized, Fit, Acted, Delivered};
+ghost use Rattle.model.specs.Parts.{Loaded as InRange, Sized, Fit, Acted, Delivered};
 
 use answers::{NO_MAILBOX, Refusal};
 use events::{Event, Frame};
@@ -37,6 +35,8 @@ fn change<F: FnOnce(Block) -> Block>(image: &mut Image, mailbox: u32, f: F) -> u
 }
 
 // ---- writes
+//
+// stays: numbers with a clause, here and below, as the events and the definitions have them; `bits` and `registers` say why
 
 // A mask of an eCAN; no other register stands there.
 // stays: t as a number, and v, as the event has them; the tests joined by `&`, one branch
@@ -50,6 +50,7 @@ fn put_mask(image: &mut Image, t: u32, v: u32)
 }
 
 // Register t written with v; of an eCAN's masks the block has none.
+#[tactic(auto, using(crate::proofs::Beside::masked_beside))]
 fn write_register(image: &mut Image, t: u32, v: u32) -> u64
     requires { (block_of image.old).slot ≤ empty_slot }
     ensures { Acted image.old (Register t v) image.new result }
@@ -69,7 +70,7 @@ fn write_mailbox(image: &mut Image, n: u32, k: u32, v: u32) -> u64
 
 // ---- frames: REC can only fall, so no flag rises
 //
-// stays: these three do not go through `change`, since none of them has to ask for the flags of bus off, passive and warning
+// stays, for speed: by `change` each of the three would ask for three flags that cannot rise, 16 ns of a frame (docs/PERFORMANCE.md, 3)
 
 // A frame that is stored in mailbox n. The block is loaded behind the mailbox's bytes: any write into the image might, for the
 // compiler, change it.
@@ -116,22 +117,16 @@ fn hear(image: &mut Image, f: Frame) -> u64
 
 // ---- sending
 
-// What was found goes into the slot; nothing found changes nothing.
-fn started_with(b: Block, n: Option<u32>) -> Block
-    ensures { result ≡ option_map_or (started b) n b }
-{
-    match n {
-        Some(n) => b.start(n),
-        None => b,
-    }
-}
-
-// What is sent next; 32 where nothing is.
+// What is sent next goes into the slot, and is the answer; where nothing is, nothing changes and the answer is 32.
 fn start(image: &mut Image) -> u64
     ensures { Acted image.old Start image.new result }
 {
     let n = sending::next(registers::Loaded::load(image));
-    change(image, n.unwrap_or(NO_MAILBOX), |b| started_with(b, n))
+    change(
+        image,
+        n.unwrap_or(NO_MAILBOX),
+        |b| n.map_or(b, |n| b.start(n)),
+    )
 }
 
 // The time stamp of a frame that was sent, which is kind 0.
@@ -148,8 +143,9 @@ fn postmark(image: &mut Image, kind: u32)
 }
 
 // What an outcome does, and the mailbox that was in the slot.
+#[tactic(auto, using(crate::proofs::Beside::postmarked_beside))]
 fn conclude(image: &mut Image, kind: u32) -> u64
-    requires { (Loaded image.old) × ((block_of image.old).slot < 32) }
+    requires { (InRange image.old) × ((block_of image.old).slot < 32) }
     ensures { Acted image.old (Outcome kind) image.new result }
 {
     postmark(image, kind);
@@ -160,13 +156,11 @@ fn conclude(image: &mut Image, kind: u32) -> u64
 // ---- reset
 
 // Every mask is zero again.
-// stays: word by word, as the definition `unmasked` puts them; `fill` would say the same of 128 bytes
+#[tactic(auto, unfolding(crate::specs::Step::unmasked))]
 fn clear_masks(image: &mut Image)
     ensures { image.new ≡ unmasked image.old }
 {
-    for n in 0..32 {
-        words::put_word(image, registers::MASKS_AT + 4 * n, 0);
-    }
+    words::put_words(image, registers::MASKS_AT, [0; 32])
 }
 
 // Masks and registers as those of a fresh model; the profile stays.
@@ -179,9 +173,11 @@ fn reset(image: &mut Image) -> u64
 
 // ---- the whole
 
-// What an accepted event does, up to the end of the step. A refusal is none. stays a match: each operation has a line here, as in document 01's table.
+// What an accepted event does, up to the end of the step. A refusal is none.
+// stays a match: each operation has a line here, as in document 01's table
+#[tactic(auto, using(crate::proofs::Meets::turns), unfolding(crate::specs::Step::own, crate::specs::Step::goes, crate::specs::Step::beside_after, crate::specs::Step::named))]
 fn act(image: &mut Image, e: Event) -> u64
-    requires { (Loaded image.old) × (Sized image.old e) }
+    requires { (InRange image.old) × (Sized image.old e) }
     ensures { Acted image.old e image.new result }
 {
     match e {
@@ -205,12 +201,11 @@ fn act(image: &mut Image, e: Event) -> u64
 }
 
 // The end of every accepted step: a mode that waits is taken, if it can be.
-// stays: 4 for none, since it is word 23 of the image
 fn settle(image: &mut Image)
     ensures { image.new ≡ cond (eqb (block_of image.old).waiting no_mode) image.old (put_block image.old (settled (block_of image.old))) }
 {
     let b = Block::load(image);
-    if b.waiting != 4 {
+    if b.waiting != registers::NO_MODE {
         b.settle().store(image)
     }
 }
@@ -233,12 +228,15 @@ fn take(image: &mut Image, event: &[u8]) -> u64
 }
 
 // Any bytes, any event bytes.
+#[tactic(auto, using(crate::proofs::Ends::stays, good::proofs::Image::good_length))]
 pub fn step(image: &mut [u8], event: &[u8]) -> u64
     ensures { Promise (step_of image.old event.now) image.new result }
 {
     if !good::good_image(image) {
         return answers::refuse(Refusal::NoModel);
     }
+    // said, and not tested again: by an `Option` with the test as its guard LLVM kept two pointers to the image, and a frame took 622
+    // instructions for 530 (D182)
     let Some(image) = image.as_mut_array::<IMAGE_BYTES>() else {
         unreachable!()
     };

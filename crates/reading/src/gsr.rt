@@ -19,8 +19,8 @@ pub fn gsr(b: Block) -> u32
 {
     (shown_slot(b) << 12)
         | bits::flag(!b.is_vacant(), 10)
-        | bits::flag(b.mode == 3, 8)
-        | bits::flag(b.mode == 1, 7)
+        | bits::flag(b.mode == registers::SUSPEND, 8)
+        | bits::flag(b.mode == registers::CONFIGURATION, 7)
         | bits::flag(b.is_asleep(), 6)
         | bits::flag(b.tso == 1, 3)
         | bits::flag(b.is_bus_off(), 2)

@@ -9,7 +9,7 @@ ghost use Rattle.refusals.specs.Refusal.{meet as meet_of, turned_round, register
 
 use answers::Refusal;
 use events::Event;
-use registers::{Block, Loaded};
+use registers::{Block, CONFIGURATION, Loaded, NORMAL};
 
 // Do two flag words share a mailbox?
 fn meet(a: u32, b: u32) -> bool
@@ -25,6 +25,7 @@ fn turned_round(b: Block, v: u32) -> u32
     b.direction(v) ^ b.md
 }
 
+// stays: registers and modes as numbers, here and below, as the definitions have them
 fn is_register_busy(b: Block, t: u32, v: u32) -> bool
     ensures { result ≡ register_busy b t v }
 {
@@ -52,7 +53,7 @@ fn is_register_locked(b: Block, t: u32, v: u32) -> bool
     if t == 1 {
         return meet(b.mc, turned_round(b, v));
     }
-    (((t == 17) | (t == 18)) & (b.mode != 1)) | is_foreign(b, t)
+    (((t == 17) | (t == 18)) & (b.mode != CONFIGURATION)) | is_foreign(b, t)
 }
 
 // stays: a number with `n < 32`, here and below; a struct for it would be taken apart again at each `bits::test`
@@ -91,11 +92,12 @@ fn is_timed(b: Block) -> bool
 fn is_mode_open(b: Block, m: u32) -> bool
     ensures { result ≡ mode_open b m }
 {
-    (m == b.mode) | ((b.mode == 0) | ((m == 0) & ((b.mode != 1) | is_timed(b))))
+    (m == b.mode)
+        | ((b.mode == NORMAL) | ((m == NORMAL) & ((b.mode != CONFIGURATION) | is_timed(b))))
 }
 
 // The number of a refusal, where there is one, or 0.
-// stays: a number, and not an Option, so that it is chosen inside a word, without a branch
+// stays: a number, and not an Option, here and in the two below: it goes on into what `remaining_refusal` gives, or 0
 fn number_if(refused: bool, why: Refusal) -> u32
     ensures { result ≡ cond refused (number_of why) 0 }
 {

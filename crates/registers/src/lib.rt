@@ -24,18 +24,26 @@ pub const PROTECTION_AT: usize = 768;
 
 pub const PROFILE_AT: usize = 772;
 
-// The two profiles: the CAN-B of document 01, and the eCAN.
+// The two profiles: the CAN-B of document 01, and the eCAN. Profile, slot and modes stay numbers, not enums: a block is made of any image, and its words
+// may be anything.
 pub const CAN_B: u32 = 0;
 
 pub const E_CAN: u32 = 1;
 
+// The words of the block that stand in a row.
+const WORDS: usize = 28;
+
 // The slot when no mailbox is being sent.
 pub const EMPTY_SLOT: u32 = 32;
 
-// Two of the modes, and what waits when none does. They stay numbers: a block is made of any image, and its words may be anything.
+// The modes, and what waits when none does.
 pub const NORMAL: u32 = 0;
 
+pub const CONFIGURATION: u32 = 1;
+
 pub const SLEEP: u32 = 2;
+
+pub const SUSPEND: u32 = 3;
 
 pub const NO_MODE: u32 = 4;
 
@@ -43,7 +51,7 @@ pub const NO_MODE: u32 = 4;
 pub const BUS_OFF_AT: u32 = 256;
 
 // A field for each of the words 0 to 27, and for the two at the end of the image; the words 28 to 31 are no part of the block.
-#[derive(Clone, Copy)]
+#[derive(Clone, Copy, Default)]
 pub struct Block {
     // 0: MC: the mailbox is enabled
     pub mc: u32,
@@ -129,7 +137,7 @@ impl<'a> Loaded<'a> {
 
 impl Block {
     // stays a function, and no From: a block is made of three parts, and the words that it gives back leave two of them out
-    fn from_words(row: [u32; 28], protection: u32, profile: u32) -> Block
+    fn from_words(row: [u32; WORDS], protection: u32, profile: u32) -> Block
         ensures { result ≡ of_parts row protection profile }
     {
         Block {
@@ -166,7 +174,7 @@ impl Block {
         }
     }
 
-    fn to_words(self) -> [u32; 28]
+    fn to_words(self) -> [u32; WORDS]
         ensures { result ≡ first_words self }
     {
         [

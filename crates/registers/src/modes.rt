@@ -87,7 +87,7 @@ impl Block {
     fn is_ready(self) -> bool
         ensures { result ≡ ready self }
     {
-        !(self.waiting == NO_MODE) & (self.is_vacant() & (self.tec < BUS_OFF_AT))
+        (self.waiting != NO_MODE) & (self.is_vacant() & (self.tec < BUS_OFF_AT))
     }
 
     // The waiting mode is taken.

@@ -6,7 +6,7 @@ ghost use Rattle.registers.specs.Writes.{slot_mask, direction as direction_of, r
 use crate::Block;
 
 impl Block {
-    // The mailbox in the slot as a flag word. That the slot is one of 33 stays a clause, here and below: `Block::load` makes a block of any image,
+    // The mailbox in the slot as a flag word. That the slot is one of 33 stays a clause, here and wherever a slot is asked for: `Block::load` makes a block of any image,
     // and `good_slot` has to ask it of a bad one.
     pub fn slot_mask(self) -> u32
         requires { self.slot ≤ empty_slot }

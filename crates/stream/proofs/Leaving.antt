@@ -10,9 +10,6 @@ use lib.ListN.{length, take, drop}
 use borrow.Author.Tests.{eqb-true, eq-eqb, ne_eqb, lt-ltb, le-ltb}
 use Rattle.words.proofs.Bytes.{Bytes}
 use Rattle.answers.specs.Answer.{no_mailbox, packed, Promise}
-use Rattle.answers.specs.Refusals.{number_of}
-use Rattle.answers.specs.declared.Refusal.{Refusal}
-use Rattle.answers.specs.declared.Refusal.TheVariants.{NoModel, Unknown, Asleep, NotAllowed, Busy, Locked, Pointless, NoTrace, NoRoom}
 use Rattle.registers.specs.Block.{can_b}
 use Rattle.fresh.specs.Fresh.{fresh}
 use Rattle.texts.specs.Text.{Put}
@@ -72,18 +69,6 @@ module _ (s t o : List ℕ) (c : Call) (r : ℕ) where
 
   pub goes_on : {x y z : List ℕ} {a : ℕ} → r ≡ 0 → Leaves c x y z a → Leaves (unless r s t o c) x y z a
   goes_on h l = leaves_as (unless-none r s t o c h) l
-
--- each refusal has a number
-pub never_none : (why : Refusal) → number_of why ≢ 0
-never_none NoModel z = absurd (omega arith)
-never_none Unknown z = absurd (omega arith)
-never_none Asleep z = absurd (omega arith)
-never_none NotAllowed z = absurd (omega arith)
-never_none Busy z = absurd (omega arith)
-never_none Locked z = absurd (omega arith)
-never_none Pointless z = absurd (omega arith)
-never_none NoTrace z = absurd (omega arith)
-never_none NoRoom z = absurd (omega arith)
 
 -- ---- the opening
 

@@ -37,7 +37,8 @@ pub fn put_word(out: &mut [u8], at: usize, v: u32) -> usize
     at + 4
 }
 
-// The last decimal digit of n.
+// The last decimal digit of n. stays: numbers are written by hand and not by `Display`, into lent bytes, without a heap, and promised byte by byte; and
+// these are no twins, since each promises other digits, or for other numbers.
 fn put_digit(out: &mut [u8], at: usize, n: u64) -> usize
     requires { at < length out.old }
     ensures { Put out.old at ((48 + n % 10) ∷ []) out.new result }
@@ -65,7 +66,7 @@ fn put_short(out: &mut [u8], at: usize, n: u64) -> usize
     put_two(out, at, n)
 }
 
-// A number of any length: the last digit stands behind those of a tenth of it.
+// A number of any length: the last digit stands behind those of a tenth of it. stays a recursion, as `decimal` is one: the first digit is known last.
 fn put_long(out: &mut [u8], at: usize, n: u64) -> usize
     requires { at + length (decimal n) ≤ length out.old }
     ensures { Put out.old at (decimal n) out.new result }

@@ -10,21 +10,21 @@ ghost use Rattle.trace.specs.Trace.{count_at, end_of, second, third, takes as ta
 
 pub mod text;
 
+use events::EventBytes;
 use registers::Image;
-use text::{put_ending, put_line};
-use texts::put_text;
+use text::{put_ending, put_header, put_line, put_refused};
 
 // So many bytes have room for any listing.
 pub const LONGEST: usize = 39033;
 
-// A byte of the file; 0 past its end.
+// A byte of the file; 0 past its end. stays a function of places: a count may lack a byte, or both, and then they count as 0.
 fn byte_at(file: &[u8], at: usize) -> usize
     ensures { (result ≡ get_or file.now at 0) × (result < 256) }
 {
     file.get(at).map_or(0, |&x| usize::from(x))
 }
 
-// The count that a section begins with.
+// The count that a section begins with. stays: the bound of a place is a clause, here and below; a type for it would be taken apart at each sum.
 fn count_at(file: &[u8], at: usize) -> usize
     requires { at < 4294967296 }
     ensures { (result ≡ count_at file.now at) × (result < 65536) }
@@ -98,20 +98,20 @@ pub fn run_event(image: &mut [u8], event: &[u8], out: &mut [u8], at: usize, numb
 }
 
 // The events of the section that begins at `start`.
-fn section(file: &[u8], start: usize) -> &[[u8; 16]]
+fn section(file: &[u8], start: usize) -> &[EventBytes]
     requires { (end_of file.now start ≤ length file.now) × (start < 4294967296) }
     ensures { (result.now ≡ section_of file.now start) × (length result.now ≡ count_at file.now start) }
 {
-    let (events, _) = file[start + 2..end_of(file, start)].as_chunks::<16>();
+    let (events, _) = file[start + 2..end_of(file, start)].as_chunks();
     events
 }
 
 // The events of a trace, by its three sections.
 #[derive(Clone, Copy)]
 struct Sections<'a> {
-    first: &'a [[u8; 16]],
-    second: &'a [[u8; 16]],
-    third: &'a [[u8; 16]],
+    first: &'a [EventBytes],
+    second: &'a [EventBytes],
+    third: &'a [EventBytes],
     ghost few: { length first.now + (length second.now + length third.now) ≤ 3000 },
 }
 
@@ -141,7 +141,7 @@ impl<'a> Sections<'a> {
 // The events of a section, numbered on from `first`.
 fn run_section(
     image: &mut Image,
-    events: &[[u8; 16]],
+    events: &[EventBytes],
     out: &mut [u8],
     at: usize,
     first: u64,
@@ -162,7 +162,7 @@ fn run_all(trace: Sections, out: &mut [u8], at: usize) -> usize
     ensures { Put out.old at (lines 1 (fresh_image can_b) (trace.entry.first.now ++ (trace.entry.second.now ++ trace.entry.third.now))) out.new result }
 {
     // stays an array of zeros that is filled in: document 01's form of a fresh model
-    let mut image = [0u8; 776];
+    let mut image = [0u8; registers::IMAGE_BYTES];
     fresh::fill_registers(&mut image, registers::CAN_B);
     let second = 1 + trace.first.len() as u64;
     let third = second + trace.second.len() as u64;
@@ -177,7 +177,7 @@ fn list_trace(file: &[u8], out: &mut [u8]) -> usize
     ensures { Put out.old 0 (run_of file.now) out.new result }
 {
     let trace = Sections::of(file);
-    let a = put_text(out, 0, b"step code mailbox count\n");
+    let a = put_header(out, 0);
     let b = run_all(trace, out, a);
     put_ending(out, b, trace.count())
 }
@@ -192,7 +192,7 @@ pub fn list(file: &[u8], out: &mut [u8]) -> usize
         return 0;
     }
     if !is_trace(file) {
-        return put_text(out, 0, b"trace refused 8\n");
+        return put_refused(out, 0);
     }
     list_trace(file, out)
 }

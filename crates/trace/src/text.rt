@@ -2,9 +2,25 @@
 // stays two parameters, the bytes and the place: `texts::put_text` and `put_field` have them, and `Put` speaks of them one by one.
 ghost use Rattle.std.specs.Prelude.{◌+◌, ◌≤◌, length};
 ghost use Rattle.texts.specs.Text.{Put};
-ghost use Rattle.trace.specs.Trace.{line_of, ending};
+ghost use Rattle.trace.specs.Trace.{line_of, header, refused_line, ending};
 
 use texts::{put_field, put_text};
+
+// The line that a listing begins with.
+pub fn put_header(out: &mut [u8], at: usize) -> usize
+    requires { at + length header ≤ length out.old }
+    ensures { Put out.old at header out.new result }
+{
+    put_text(out, at, b"step code mailbox count\n")
+}
+
+// The line of a file that is no trace, which stands alone.
+pub fn put_refused(out: &mut [u8], at: usize) -> usize
+    requires { at + length refused_line ≤ length out.old }
+    ensures { Put out.old at refused_line out.new result }
+{
+    put_text(out, at, b"trace refused 8\n")
+}
 
 // The line of an event.
 pub fn put_line(

@@ -28,7 +28,7 @@ pub fn put_word(s: &mut [u8], at: usize, v: u32)
     s[at..at + 4].copy_from_slice(&v.to_le_bytes());
 }
 
-// Two words in a row as one number, the first lowest.
+// Two words in a row as one number, the first lowest. stays by two words, as the definition says it; the compiler makes one load of it.
 pub fn long_at(s: &[u8], at: usize) -> u64
     requires { at + 8 ≤ length s.now }
     ensures { result ≡ long_at s.now at }

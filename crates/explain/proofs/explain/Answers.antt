@@ -1,15 +1,16 @@
 use Prim.Native.Nat.{ℕ, ◌^◌, ◌<◌, ◌≤◌}
-use mathlib.Core.Path.{◌≡◌, refl, sym, ◌∙◌, ap, subst}
+use mathlib.Core.Path.{refl, sym, ◌∙◌, ap, subst}
 use mathlib.Core.List.{List}
 use native.Mathlib.Omega.{arith}
 use Rattle.words.specs.Bytes.{Bytes}
 use Rattle.registers.specs.Block.{block_of}
 use Rattle.answers.specs.Answer.{no_mailbox, packed}
+use Rattle.answers.proofs.Refusals.{never_none}
 use Rattle.good.proofs.Image.{image_facts}
 use Rattle.events.specs.declared.Frame.{Frame}
 use Rattle.explain.specs.Terms.{explained_by}
 use Rattle.explain.proofs.Lines.{same-fitted}
-use Rattle.explain.proofs.Call.{identifier-fits, image-refused, event-refused, lines-told, number-some}
+use Rattle.explain.proofs.Call.{identifier-fits, image-refused, event-refused, lines-told}
 use Rattle.explain.proofs.explain.Goals as goal
 
 pub returns-in_default : goal.returns-in_default
@@ -22,7 +23,7 @@ returns-in-Err c =
     let bytes : Bytes c.args.image.now = record { small = λ i. omega (arith, c.type_inv.image i) } in
     let small : Bytes c.args.event.now = record { small = λ i. omega (arith, c.type_inv.event i) } in
     event-refused _ _ _ _ _ bytes small c.in-Some.ensures.0
-    (λ z. number-some c.in-Err.why (c.in-Err.ensures ∙ z))
+    (λ z. never_none c.in-Err.why (c.in-Err.ensures ∙ z))
     (refl, c.refuse-in-Err.ensures ∙ ap (λ (k : ℕ). packed k no_mailbox 0) c.in-Err.ensures)
 
 pub tell-requires : goal.tell-requires

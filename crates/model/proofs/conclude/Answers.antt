@@ -1,22 +1,13 @@
-use Prim.Native.Nat.{◌≤◌}
 use mathlib.Core.Path.{◌≡◌, refl, ◌∙◌, ap}
 use borrow.Author.Rules.{rules}
 use Rattle.registers.specs.declared.Block.{Block}
-use Rattle.registers.specs.Block.{block_of, empty_slot}
+use Rattle.registers.specs.Block.{block_of}
 use Rattle.registers.specs.Sending.{concluded}
 use Rattle.events.specs.declared.Event.TheVariants.{Outcome}
 use Rattle.model.specs.Step.{own, goes, beside_after, named}
 use Rattle.model.proofs.Meets.{acts}
 use Rattle.model.proofs.Beside.{postmarked_beside}
 use Rattle.model.proofs.conclude.Goals as goal
-
-pub change-requires : goal.change-requires
-change-requires c =
-    let a = c.args in
-    let back = ap block_of c.postmark.ensures ∙ (postmarked_beside a.image.now a.kind c.requires.0 c.requires.1).block in
-    let slot : (block_of c.postmark.new.image).slot ≤ empty_slot = rw back c.requires.0.slot in
-    let tec : (block_of c.postmark.new.image).tec ≤ 256 = rw back c.requires.0.tec in
-    search (rules, slot, tec)
 
 pub returns : goal.returns
 unfolding own goes beside_after named

@@ -1,21 +1,13 @@
-use Prim.Native.Nat.{◌≤◌}
 use mathlib.Core.Path.{◌≡◌, refl, ◌∙◌, ap}
 use borrow.Author.Rules.{rules}
 use Rattle.registers.specs.declared.Block.{Block}
-use Rattle.registers.specs.Block.{block_of, empty_slot}
+use Rattle.registers.specs.Block.{block_of}
 use Rattle.registers.specs.Writes.{written}
 use Rattle.events.specs.declared.Event.TheVariants.{Register}
 use Rattle.model.specs.Step.{own, goes, beside_after, named}
 use Rattle.model.proofs.Meets.{acts}
 use Rattle.model.proofs.Beside.{masked_beside}
 use Rattle.model.proofs.write_register.Goals as goal
-
-pub change-requires : goal.change-requires
-change-requires c =
-    let a = c.args in
-    let back = ap block_of c.put_mask.ensures ∙ (masked_beside a.image.now a.t a.v).block in
-    let slot : (block_of c.put_mask.new.image).slot ≤ empty_slot = rw back c.requires in
-    search (rules, slot)
 
 pub returns : goal.returns
 unfolding own goes beside_after named

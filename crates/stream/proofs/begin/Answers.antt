@@ -15,4 +15,4 @@ returns-then-text-lt24 c =
 pub returns : goal.returns
 returns c =
     let a = c.args in
-    printed-there a.image.now a.state.now a.text.now opened header 0 (omega arith) (fresh-there a.image.now a.state.now a.text.now (omega arith) c.fresh.ensures) (c.restart.ensures ∙ nothing-gathered 1 (fresh_image can_b)) c.put_text.ensures c.pack.ensures
+    printed-there a.image.now a.state.now a.text.now opened header 0 (omega arith) (fresh-there a.image.now a.state.now a.text.now (omega arith) c.fresh.ensures) (c.restart.ensures ∙ nothing-gathered 1 (fresh_image can_b)) c.put_header.ensures c.pack.ensures

@@ -1,5 +1,6 @@
 use Rattle.stream.proofs.Judging.{fit, other-image, other-state, of_state, nothing-against}
-use Rattle.stream.proofs.Leaving.{never_none, stopped, goes_on}
+use Rattle.answers.proofs.Refusals.{never_none}
+use Rattle.stream.proofs.Leaving.{stopped, goes_on}
 use mathlib.Core.Path.{sym, ◌∙◌}
 use Rattle.stream.specs.Calls.{against, last_call, closing}
 use native.Mathlib.Omega.{arith}

@@ -41,4 +41,4 @@ pub returns : goal.returns
 returns c =
     let t = c.args.state.now in
     let r = c.load-r.result in
-    rest_decides t r c.load-r.ensures c.choose-2.ensures c.choose-whole.ensures c.choose.ensures c.choose-known.ensures c.takes.ensures c.is_zero_from.ensures (omega (arith, c.if-r-eq0.false)) (omega (arith, c.if-r-gt-BEHIND.false)) (omega (arith, c.if-r-choose.false)) (omega (arith, c.if-r-whole.false))
+    rest_decides t r c.load-r.ensures c.choose-2.ensures c.choose-whole.ensures c.choose.ensures c.choose-known.ensures (rw c.from.ensures at c.takes.ensures) c.is_zero_from.ensures (omega (arith, c.if-r-eq0.false)) (omega (arith, c.if-r-gt-BEHIND.false)) (omega (arith, c.if-r-choose.false)) (omega (arith, c.if-r-whole.false))

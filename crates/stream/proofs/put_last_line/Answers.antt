@@ -7,17 +7,17 @@ use Rattle.stream.proofs.put_last_line.Goals as goal
 
 pub put_ending-requires : goal.put_ending-requires
 put_ending-requires c =
-    omega (arith, ending-most c.args.r.steps (omega (arith, c.requires)))
+    rw c.from.ensures (omega (arith, ending-most c.args.r.steps (omega (arith, c.requires))))
 
 pub returns-then-r-eq-BEHIND : goal.returns-then-r-eq-BEHIND
 returns-then-r-eq-BEHIND c =
     let r = c.args.r in
-    as_text (end_line r.section r.left r.steps (omega arith)) c.put_ending.ensures
+    as_text (end_line r.section r.left r.steps (omega arith)) (rw c.from.ensures at c.put_ending.ensures)
 
-pub put_text-requires : goal.put_text-requires
-put_text-requires c = search rules
+pub put_refused-requires : goal.put_refused-requires
+put_refused-requires c = search rules
 
 pub returns : goal.returns
 returns c =
     let r = c.args.r in
-    as_text (short-line r.section r.left r.steps (λ z. omega arith)) c.put_text.ensures
+    as_text (short-line r.section r.left r.steps (λ z. omega arith)) c.put_refused.ensures

@@ -16,7 +16,7 @@ run_all-b-requires c =
     let l = lines 1 (fresh_image can_b) (events f) in
     let e = ending (length (events f)) in
     let m = run-most f c.requires.0 in
-    rw c.of-trace.ensures (front l e _ _ (room c.put_text-a.ensures (l ++ e) (omega (arith, c.requires.1))))
+    rw c.of-trace.ensures (front l e _ _ (room c.put_header-a.ensures (l ++ e) (omega (arith, c.requires.1))))
 
 pub put_ending-requires : goal.put_ending-requires
 unfolding run
@@ -26,10 +26,10 @@ put_ending-requires c =
     let e = ending (length (events f)) in
     let m = run-most f c.requires.0 in
     let n = c.count.ensures ∙ ap length c.of-trace.ensures in
-    rw n (room (as_text (ap (lines 1 (fresh_image can_b)) c.of-trace.ensures) c.run_all-b.ensures) e (room c.put_text-a.ensures (l ++ e) (omega (arith, c.requires.1))))
+    rw n (room (as_text (ap (lines 1 (fresh_image can_b)) c.of-trace.ensures) c.run_all-b.ensures) e (room c.put_header-a.ensures (l ++ e) (omega (arith, c.requires.1))))
 
 pub returns : goal.returns
 unfolding run
 returns c =
     let n = c.count.ensures ∙ ap length c.of-trace.ensures in
-    both_put c.put_text-a.ensures (both_put (as_text (ap (lines 1 (fresh_image can_b)) c.of-trace.ensures) c.run_all-b.ensures) (as_text (ap ending n) c.put_ending.ensures))
+    both_put c.put_header-a.ensures (both_put (as_text (ap (lines 1 (fresh_image can_b)) c.of-trace.ensures) c.run_all-b.ensures) (as_text (ap ending n) c.put_ending.ensures))
