@@ -59,3 +59,13 @@ pub fn frame_in(e: &[u8]) -> Result<Frame, Refusal>
     demand(is_frame_taken(e), Refusal::NotAllowed)?;
     Ok(frame_of(e))
 }
+
+// The number of the refusal, 0 where they are one. stays: public, and without fail; `frame_in` stands beside it.
+pub fn frame_refusal(e: &[u8]) -> u32
+    ensures { result ≡ frame_refusal e.now }
+{
+    match frame_in(e) {
+        Ok(_) => 0,
+        Err(why) => why.number(),
+    }
+}

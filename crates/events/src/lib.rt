@@ -13,7 +13,7 @@ use crate::frames::frame_event;
 use crate::parts::{quiet, target, value};
 use crate::writes::{mailbox_event, options_event, register_event};
 use answers::Refusal;
-pub use frames::{frame_in, frame_of};
+pub use frames::{frame_in, frame_of, frame_refusal};
 use mailboxes::Identifier;
 
 pub const EVENT_BYTES: usize = 16;

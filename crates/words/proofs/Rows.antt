@@ -3,10 +3,8 @@ use Prim.Native.Nat.{ℕ, zero, suc, ◌+◌, ◌*◌, ◌^◌, ◌<◌, ◌≤�
 use mathlib.Core.Path.{◌≡◌, refl, ◌∙◌, ap, ap₂}
 use mathlib.Core.List.{List, [], ◌∷◌}
 use native.Mathlib.Omega.{arith}
-use mathlib.Core.Logic.{◌≢◌, inl, inr}
-use borrow.Author.Count.{below_more}
-use lib.ListN.{get_or, set, length, take}
-use lib.Seq.{get_or-set_same, get_or-set_other}
+use mathlib.Core.Logic.{inl, inr}
+use lib.ListN.{get_or, length, take}
 use Rattle.words.specs.Word.{word_at, put_word, words_of, put_words}
 use Rattle.words.proofs.Laws.{length-put, byte-other, word_same, word-other}
 
@@ -45,14 +43,6 @@ pub length-put-words : (s : List ℕ) (at : ℕ) (ws : List ℕ) → length (put
 unfolding put_words
 length-put-words s at [] = refl
 length-put-words s at (w ∷ ws) = length-put-words (put_word s at w) (at + 4) ws ∙ length-put s at w
-
--- one element more of a list that is filled by f
-pub set_more : (f : ℕ → ℕ) (xs : List ℕ) (i v : ℕ) → i < length xs → v ≡ f i → ((k : ℕ) → k < i → get_or xs k 0 ≡ f k)
-    → (k : ℕ) → k < i + 1 → get_or (set xs i v) k 0 ≡ f k
-set_more f xs i v h e p =
-    below_more (λ k. get_or (set xs i v) k 0 ≡ f k) i
-    (λ k hk. let n : k ≢ i = omega arith in get_or-set_other xs i k v 0 n ∙ p k hk)
-    (get_or-set_same xs i v 0 h ∙ e)
 
 -- the bytes and the words before the row stay
 pub byte-before-put : (s : List ℕ) (at : ℕ) (ws : List ℕ) (i : ℕ) → i < at → get_or (put_words s at ws) i 0 ≡ get_or s i 0
