@@ -153,6 +153,18 @@ fn count(r: Reader, event: &mut EventBytes, out: &mut [u8], place: usize) -> Tak
     }
 }
 
+// Bytes put behind those that are gathered; how many there are then.
+// stays one by one: 16 at most are put, and by `put_text`, which copies a slice, the archive would ask for a memmove here, and nowhere else.
+fn put_behind(event: &mut EventBytes, seen: usize, bytes: &[u8]) -> usize
+    requires { seen + length bytes.now ≤ 16 }
+    ensures { Put event.old seen bytes.now event.new result }
+{
+    for (i, byte) in bytes.iter().enumerate() {
+        event[seen + i] = *byte;
+    }
+    seen + bytes.len()
+}
+
 // Bytes of an event, as many as it lacks at most. Its first byte says whether it may stand here.
 // stays: six parameters and no struct of them, since reader and place are new after each piece, and the bytes lent would have to be lent
 // on one by one; so do the clauses Ready and Clean, each of which speaks of reader, event and image at once.
@@ -167,7 +179,7 @@ fn gather(
     requires { Ready (standing_by r event.old image.old) × (r.section ≤ 3) × (1 ≤ r.left) × (1 ≤ length bytes.now) × (r.seen + length bytes.now ≤ 16) × Clean r.seen event.old × (place + length (printed (standing_by r event.old image.old) bytes.now) ≤ length out.old) }
     ensures { TookSome (standing_by r event.old image.old) bytes.now out.old place event.new image.new out.new result }
 {
-    let seen = put_text(event, r.seen as usize, bytes);
+    let seen = put_behind(event, r.seen as usize, bytes);
     if !trace::takes(r.section as usize, usize::from(event[0])) {
         *event = [0; 16];
         return fault(out, place);
