@@ -1,6 +1,6 @@
 -- What a start takes: an eligible mailbox, before which no other goes.
 use Rattle.std.proofs.lemmas.Bool.{or_left}
-use Prim.Native.Nat.{ℕ, zero, suc, ◌+◌, ◌-◌, ◌<◌, ◌≤◌}
+use Prim.Native.Nat.{ℕ, zero, suc, ◌+◌, ◌-◌, ◌^◌, ◌<◌, ◌≤◌}
 use mathlib.Core.Path.{◌≡◌, refl, sym, ◌∙◌, ap, subst}
 use mathlib.Core.Bool.{Bool, true, false, cond, not, ◌&&◌, and-true, and-false, false≢true}
 use mathlib.Core.List.{List}
@@ -13,12 +13,13 @@ use Rattle.std.specs.Prelude.{Option, Some, None}
 use Rattle.std.specs.Option.{option_map}
 use Rattle.std.proofs.lemmas.Option.{same_Some, none-some}
 use lib.Bits.{bit_and}
+use lib.Pow.{pow_pos}
 use borrow.Author.Count.{below_none, below_more}
 use borrow.Author.Tests.{eq-eqb, ne_eqb, ltb-true, ltb-false, lt-ltb}
 use Rattle.bits.specs.Bit.{bit, mask, without}
 use Rattle.bits.specs.Below.{first_below}
-use Rattle.bits.proofs.Laws.{bit-and, bit_mask, bit-without}
-use Rattle.bits.proofs.Below.{First, first_is}
+use Rattle.bits.proofs.Laws.{bit-and, bit_mask, bit-without, bit-zero, same_below}
+use Rattle.bits.proofs.Below.{First, first_is, first_by}
 use Rattle.registers.specs.declared.Block.{Block}
 use Rattle.registers.specs.Block.{block_of}
 use Rattle.registers.specs.Modes.{on_bus}
@@ -189,6 +190,21 @@ module _ (s : List ℕ) (w : ℕ) where
               (carried s w n l up best h.done);
           same = λ j u. after-bit j (λ e. omega arith) ∙ h.same j (omega arith);
         }
+
+-- a word that is not empty names a mailbox
+pub some-named : (w : ℕ) → w < 2 ^ 32 → w ≢ 0 → first_below (bit w) 32 < 32
+some-named w l d = at (dec_lt (first_below (bit w) 32) 32)
+  where
+    f : First (bit w) 32 (first_below (bit w) 32)
+    f = first_is (bit w) 32
+
+    at : Dec (first_below (bit w) 32 < 32) → first_below (bit w) 32 < 32
+    at (yes k) = k
+    at (no k) = absurd (d (same_below 32 w 0 l (pow_pos 32) (λ i u. f.none i (omega arith) ∙ sym (bit-zero i))))
+
+-- the empty word names none
+pub none_named : first_below (bit 0) 32 ≡ 32
+none_named = first_by (bit 0) 32 32 (record { most = omega arith; holds = λ l. absurd (omega arith); none = λ j l. bit-zero j })
 
 -- ---- the smallest key, of equal keys the lowest number
 

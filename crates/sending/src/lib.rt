@@ -4,17 +4,24 @@
 ghost use Rattle.std.specs.Prelude.{◌≡◌, ◌<◌};
 ghost use Rattle.bits.specs.Bit.{bit};
 ghost use Rattle.bits.specs.Below.{first_below};
-ghost use Rattle.sending.specs.Choice.{key_at, smallest_below, better_of, named, next as next_of};
+ghost use Rattle.sending.specs.Choice.{key_at, smallest_below, better_of, named as named_of, next as next_of};
 
 use mailboxes::Key;
 use registers::{Image, Loaded};
 
-// The lowest mailbox that a word names, by the count of the zeros below its bit, which is 32 of the empty word.
-pub fn lowest(w: u32) -> Option<u32>
-    ensures { result ≡ named (first_below (bit w) 32) }
+// The mailbox of a number, or none from 32 on.
+fn named(n: u32) -> Option<u32>
+    ensures { result ≡ named_of n }
 {
-    let n = w.trailing_zeros();
     (n < 32).then_some(n)
+}
+
+// The lowest mailbox that a word names, by the count of the zeros below its bit. The empty word has 32, which names none: it has no case
+// of its own.
+pub fn lowest(w: u32) -> Option<u32>
+    ensures { result ≡ named_of (first_below (bit w) 32) }
+{
+    named(w.trailing_zeros())
 }
 
 // The arbitration key of mailbox n.
@@ -53,7 +60,7 @@ fn better(best: Option<Best>, n: u32, key: Key) -> Best
 // The mailbox with the smallest key among those that a word names. It goes from one that is named to the next: `rest` has those
 // that are not yet looked at. Stays a loop: it counts no index, and looks at no mailbox that is not named.
 pub fn smallest(s: &Image, w: u32) -> Option<u32>
-    ensures { result ≡ named (smallest_below s.now w 32) }
+    ensures { result ≡ named_of (smallest_below s.now w 32) }
 {
     let mut best: Option<Best> = None;
     let mut rest = w;
@@ -67,7 +74,7 @@ pub fn smallest(s: &Image, w: u32) -> Option<u32>
 // What a start takes.
 #[tactic(auto, unfolding(crate::specs::Choice::next, crate::specs::Choice::chosen))]
 pub fn next(m: Loaded) -> Option<u32>
-    ensures { result ≡ named (next_of m.entry.image.now) }
+    ensures { result ≡ named_of (next_of m.entry.image.now) }
 {
     let b = m.block;
     if !b.is_on_bus() {

@@ -4,4 +4,4 @@ use Rattle.sending.specs.Choice.{named}
 use Rattle.sending.proofs.lowest.Goals as goal
 
 pub returns : goal.returns
-returns c = c.then_some.ensures ∙ ap named (sym (lowest_zeros 32 c.args.w))
+returns c = c.named.ensures ∙ ap named (sym (lowest_zeros 32 c.args.w))
