@@ -6,7 +6,7 @@
  * bytes each; from byte 512 on stand the 32 register words, low byte first, from 640 on 32 masks, at 768
  * the protection, at 772 the profile. The library keeps nothing between calls, allocates nothing, and
  * touches no other memory, so every image is a model of its own. Link the archive with a C library: the
- * compiled code may call memset and its like.
+ * compiled code calls its memcpy and memset, and nothing else.
  *
  * The profile says which controller it is: 0 a CAN-B, 1 an eCAN. frostsorrel_fresh sets it for good: no
  * event changes it, a reset neither. What the two do not share:
